@@ -1,0 +1,4 @@
+pub mod Sane
+pub mod Views
+pub mod Follows
+pub mod Passes

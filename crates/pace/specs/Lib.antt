@@ -1,0 +1,5 @@
+pub mod Answers
+pub mod Questions
+pub mod Meaning
+pub mod Waits
+pub mod Cases

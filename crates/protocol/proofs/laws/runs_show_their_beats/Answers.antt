@@ -1,0 +1,5 @@
+use Rattle.protocol.proofs.Logs.{shows}
+use Rattle.protocol.proofs.laws.runs_show_their_beats.Needs as need
+
+pub returns : need.returns
+returns c = shows

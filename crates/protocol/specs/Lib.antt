@@ -1,0 +1,13 @@
+pub mod Words
+pub mod Answers
+pub mod Plans
+pub mod Patience
+pub mod Walk
+pub mod Party
+pub mod Group
+pub mod Runs
+pub mod Laws
+pub mod Beats
+pub mod Rehearsals
+pub mod Kept
+pub mod Cases

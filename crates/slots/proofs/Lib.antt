@@ -1,0 +1,4 @@
+mod Places
+pub mod Answering
+pub mod Growing
+pub mod Times
