@@ -1,13 +1,17 @@
 // What whoever looks on may know of a group.
 ghost use mathlib.Core.Path.{_≡_};
-ghost use Rattle.group.specs.Views.{seen-party};
+ghost use Rattle.protocol.specs.Runs.{is-own-log};
+ghost use Rattle.group.specs.Views.{play, seen-party};
 ghost use Rattle.protocol.specs.Patience.{patience};
 use crate::group::Group;
+use crate::questions::is_own_log;
 use crate::rounds::patience_of;
 use pace::Pace;
+use protocol::happening::Happening;
 use protocol::party::Party;
 use protocol::plan::Plan;
 use protocol::table::Root;
+use slots::SlotList;
 
 impl<P: Pace> Group<P> {
     pub fn clock(&self) -> u32
@@ -39,6 +43,13 @@ impl<P: Pace> Group<P> {
         ensures { λ r. ⌜ r ≡ now (self .entry) .table .logged ⌝ }
     {
         self.table.logged
+    }
+
+    // Is this the log that the group wrote?
+    pub fn wrote(&self, log: &SlotList<'_, Happening>) -> bool
+        ensures { λ r. ⌜ r ≡ is-own-log (play (now (self .entry) .table) (now (log .entry))) ⌝ }
+    {
+        is_own_log(&self.table, log)
     }
 
     // A party with the root's notes of it and what is on its legs, by its number from 1.

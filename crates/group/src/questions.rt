@@ -7,7 +7,7 @@ ghost use Rattle.slots.specs.Slots.{capacity};
 ghost use Rattle.protocol.specs.Answers.{told};
 ghost use Rattle.protocol.specs.Party.{on-leg, due};
 ghost use Rattle.protocol.specs.Group.{the, any};
-ghost use Rattle.protocol.specs.Runs.{number, log-asks, may-join, may-leave, is-in, is-outside, can-crash};
+ghost use Rattle.protocol.specs.Runs.{number, log-asks, is-own-log, may-join, may-leave, is-in, is-outside, can-crash};
 ghost use Rattle.protocol.specs.declared.call.Call.the-variants.{Tick, Deliver, Crash, Join, Leave};
 ghost use Rattle.group.specs.Views.{play, Ready, Found};
 use protocol::happening::Happening;
@@ -31,10 +31,17 @@ fn ask_log(table: &Table, log: &SlotList<'_, Happening>, wanted: usize) -> Resul
     if log.free() < wanted {
         return Err(Refusal::NoSlot);
     }
-    if log.len() != table.logged || log.last_tick() > table.clock {
+    if !is_own_log(table, log) {
         return Err(Refusal::LogDiffers);
     }
     Ok(())
+}
+
+// Has the log as many records as the group wrote, none later than the clock? The last record answers for all.
+pub(crate) fn is_own_log(table: &Table, log: &SlotList<'_, Happening>) -> bool
+    ensures { λ r. ⌜ r ≡ is-own-log (play (now (table .entry)) (now (log .entry))) ⌝ }
+{
+    log.len() == table.logged && log.last_tick() <= table.clock
 }
 
 pub(crate) fn ask_tick(

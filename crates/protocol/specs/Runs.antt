@@ -38,10 +38,14 @@ tick-of h = h .tick
 abbrev pub none-later : ℕ → List Happening → Bool
 none-later clock log = leb (last-time tick-of log) clock
 
+-- the log has as many records as the group wrote, none later than the clock
+abbrev pub is-own-log : Play → Bool
+is-own-log s = eqb (length (s .log)) (s .table .logged) && none-later (s .table .clock) (s .log)
+
 -- the questions on the log, for a call that wants so many slots of room
 abbrev pub log-asks : ℕ → ℕ → Play → ℕ
 log-asks slots room s =
-    asks (leb (length (s .log) + slots) room) 12 (asks (eqb (length (s .log)) (s .table .logged) && none-later (s .table .clock) (s .log)) 13 0)
+    asks (leb (length (s .log) + slots) room) 12 (asks (is-own-log s) 13 0)
 
 abbrev pub is-party : ℕ → ℕ → Bool
 is-party n i = ltb 0 i && leb i n

@@ -1,0 +1,11 @@
+pub mod Texts
+pub mod Elements
+pub mod Cut
+pub mod Body
+pub mod Counts
+pub mod Edges
+pub mod Nested
+pub mod Answer
+pub mod State
+pub mod Example
+pub mod Export

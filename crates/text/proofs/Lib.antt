@@ -1,0 +1,3 @@
+pub mod Placed
+mod Numbers
+pub mod Lines
