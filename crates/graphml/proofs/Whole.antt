@@ -22,7 +22,8 @@ use Rattle.graphml.specs.Elements.{Forest, element, none, run, render}
 use Rattle.graphml.specs.Cut.{all-fits, tags}
 use Rattle.graphml.specs.Body.{body}
 use Rattle.graphml.specs.Counts.{count, is-happening, is-edge}
-use Rattle.graphml.specs.Edges.{edges-among, edge-pairs}
+use Rattle.protocol.specs.Beats.{edges}
+use Rattle.graphml.specs.Edges.{edges-among}
 use Rattle.graphml.specs.Nested.{WellNested}
 use Rattle.graphml.specs.Answer.{in-frame, part, over, written, summary, exported}
 use Rattle.graphml.specs.State.{State, wrote, drawn}
@@ -96,5 +97,5 @@ module _ (out : List ℕ) (log : List Happening) (n : ℕ) (h : 275 ≤ length o
     pub whole-text : {out′ : List ℕ} {k : ℕ} → out′ ≡ over text out → k ≡ length text → take k out′ ≡ in-frame (body log n)
     whole-text e f = front e f ∙ ap in-frame all-kept
 
-    pub whole-edges : edges-among (tags fit) ≡ edge-pairs 0 log
+    pub whole-edges : edges-among (tags fit) ≡ edges 0 log
     whole-edges = ap (λ x. edges-among (tags x)) all-kept ∙ edge-tags log n

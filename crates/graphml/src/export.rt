@@ -6,9 +6,10 @@ ghost use lib.ListN.{length, take};
 ghost use Rattle.std.specs.Vec.{made};
 ghost use Rattle.slots.specs.Slots.{items};
 ghost use Rattle.group.specs.Views.{play};
+ghost use Rattle.protocol.specs.Beats.{edges};
 ghost use Rattle.graphml.specs.Cut.{tags, EndsAt};
-ghost use Rattle.graphml.specs.Body.{body as contents};
-ghost use Rattle.graphml.specs.Edges.{edges-among, edge-pairs};
+ghost use Rattle.graphml.specs.Body.{body};
+ghost use Rattle.graphml.specs.Edges.{edges-among};
 ghost use Rattle.graphml.specs.Nested.{WellNested};
 ghost use Rattle.graphml.specs.Answer.{in-frame, part};
 ghost use Rattle.graphml.specs.Export.{export-answer, export-bytes};
@@ -29,9 +30,9 @@ pub fn export<P: Pace>(
     ensures answer { λ r. ⌜ r ≡ export-answer (play (now (group .entry) .table) (now (log .entry))) (now (group .entry) .plan .n) (length (now (out .entry))) ⌝ }
     ensures bytes { λ _. ⌜ now (out .exit) ≡ export-bytes (play (now (group .entry) .table) (now (log .entry))) (now (group .entry) .plan .n) (now (out .entry)) ⌝ }
     ensures nested { λ r. ⌜ made r (λ x. WellNested (take (x .bytes) (now (out .exit)))) ⌝ }
-    ensures cut { λ r. ⌜ made r (λ x. x .whole ≡ false → EndsAt (length (now (out .entry)) - 275) (contents (items (now (log .entry))) (now (group .entry) .plan .n))) ⌝ }
-    ensures whole { λ r. ⌜ made r (λ x. x .whole ≡ true → take (x .bytes) (now (out .exit)) ≡ in-frame (contents (items (now (log .entry))) (now (group .entry) .plan .n))) ⌝ }
-    ensures edges { λ r. ⌜ made r (λ x. x .whole ≡ true → edges-among (tags (part (items (now (log .entry))) (now (group .entry) .plan .n) (length (now (out .entry))))) ≡ edge-pairs 0 (items (now (log .entry)))) ⌝ }
+    ensures cut { λ r. ⌜ made r (λ x. x .whole ≡ false → EndsAt (length (now (out .entry)) - 275) (body (items (now (log .entry))) (now (group .entry) .plan .n))) ⌝ }
+    ensures whole { λ r. ⌜ made r (λ x. x .whole ≡ true → take (x .bytes) (now (out .exit)) ≡ in-frame (body (items (now (log .entry))) (now (group .entry) .plan .n))) ⌝ }
+    ensures edges { λ r. ⌜ made r (λ x. x .whole ≡ true → edges-among (tags (part (items (now (log .entry))) (now (group .entry) .plan .n) (length (now (out .entry))))) ≡ edges 0 (items (now (log .entry)))) ⌝ }
 {
     if !group.wrote(log) {
         return Err(Refusal::LogDiffers);

@@ -3,7 +3,7 @@ ghost use mathlib.Core.Path.{_≡_};
 ghost use denote.Ref.{name};
 ghost use Rattle.graphml.specs.Elements.{none};
 ghost use Rattle.graphml.specs.Cut.{all-fits};
-ghost use Rattle.graphml.specs.Body.{happenings-of, edges-from, is-arrived, party-then, body as contents};
+ghost use Rattle.graphml.specs.Body.{happenings-of, edges-from, is-arrived, party-then, body};
 ghost use Rattle.graphml.specs.State.{state, Sound, drawn};
 use super::element::PartyGraph;
 use super::element::RunGraph;
@@ -84,8 +84,8 @@ pub fn write_body(
     parties: u8,
 ) -> (RunGraph, bool)
     requires { ⌜ Sound (state (now out)) 20 ⌝ }
-    ensures whole { λ r. ⌜ r .1 ≡ all-fits (now (out .entry) .room) (contents (now (log .entry)) parties) ⌝ }
-    ensures after { λ _. ⌜ state (now (out .exit)) ≡ drawn (state (now (out .entry))) (contents (now (log .entry)) parties) ⌝ }
+    ensures whole { λ r. ⌜ r .1 ≡ all-fits (now (out .entry) .room) (body (now (log .entry)) parties) ⌝ }
+    ensures after { λ _. ⌜ state (now (out .exit)) ≡ drawn (state (now (out .entry))) (body (now (log .entry)) parties) ⌝ }
     ensures sound { λ _. ⌜ Sound (state (now (out .exit))) 20 ⌝ }
     ensures same { λ _. ⌜ name (now (out .exit) .bytes) ≡ name (now (out .entry) .bytes) ⌝ }
 {

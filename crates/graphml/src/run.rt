@@ -4,9 +4,10 @@ ghost use mathlib.Core.Bool.{true, false};
 ghost use Prim.Native.Nat.{_-_};
 ghost use lib.ListN.{length, take};
 ghost use Rattle.std.specs.Vec.{made};
+ghost use Rattle.protocol.specs.Beats.{edges};
 ghost use Rattle.graphml.specs.Cut.{tags, EndsAt};
-ghost use Rattle.graphml.specs.Body.{body as contents};
-ghost use Rattle.graphml.specs.Edges.{edges-among, edge-pairs};
+ghost use Rattle.graphml.specs.Body.{body};
+ghost use Rattle.graphml.specs.Edges.{edges-among};
 ghost use Rattle.graphml.specs.Nested.{WellNested};
 ghost use Rattle.graphml.specs.Answer.{in-frame, part, written, exported};
 use super::answer::Exported;
@@ -24,9 +25,9 @@ pub fn write_run(log: &[Happening], parties: u8, out: &mut [u8]) -> Result<Expor
     ensures answer { λ r. ⌜ r ≡ exported (now (log .entry)) parties (length (now (out .entry))) ⌝ }
     ensures bytes { λ _. ⌜ now (out .exit) ≡ written (now (log .entry)) parties (now (out .entry)) ⌝ }
     ensures nested { λ r. ⌜ made r (λ x. WellNested (take (x .bytes) (now (out .exit)))) ⌝ }
-    ensures cut { λ r. ⌜ made r (λ x. x .whole ≡ false → EndsAt (length (now (out .entry)) - 275) (contents (now (log .entry)) parties)) ⌝ }
-    ensures whole { λ r. ⌜ made r (λ x. x .whole ≡ true → take (x .bytes) (now (out .exit)) ≡ in-frame (contents (now (log .entry)) parties)) ⌝ }
-    ensures edges { λ r. ⌜ made r (λ x. x .whole ≡ true → edges-among (tags (part (now (log .entry)) parties (length (now (out .entry))))) ≡ edge-pairs 0 (now (log .entry))) ⌝ }
+    ensures cut { λ r. ⌜ made r (λ x. x .whole ≡ false → EndsAt (length (now (out .entry)) - 275) (body (now (log .entry)) parties)) ⌝ }
+    ensures whole { λ r. ⌜ made r (λ x. x .whole ≡ true → take (x .bytes) (now (out .exit)) ≡ in-frame (body (now (log .entry)) parties)) ⌝ }
+    ensures edges { λ r. ⌜ made r (λ x. x .whole ≡ true → edges-among (tags (part (now (log .entry)) parties (length (now (out .entry))))) ≡ edges 0 (now (log .entry))) ⌝ }
 {
     let size = out.len();
     if size < FRAME {

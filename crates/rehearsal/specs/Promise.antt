@@ -1,11 +1,12 @@
 -- The promise of a whole run, over what its caller sees: the calls with their answers, the group's table, the slots, the
 -- output and what the export answered.
-use Prim.Native.Nat.{ℕ}
+use Prim.Native.Nat.{ℕ, _-_}
 use mathlib.Core.Path.{_≡_}
-use mathlib.Core.Bool.{true}
+use mathlib.Core.Bool.{true, false}
 use mathlib.Core.List.{List, map}
 use lib.ListN.{length, take, drop}
 use Rattle.std.specs.declared.result.Result.{Result}
+use Rattle.std.specs.Vec.{made}
 use Rattle.pace.specs.Meaning.{Meaning}
 use Rattle.protocol.specs.declared.happening.Happening.{Happening}
 use Rattle.protocol.specs.declared.table.Table.{Table}
@@ -18,6 +19,11 @@ use Rattle.protocol.specs.Beats.{Beats-are-logged, edges, deliveries}
 use Rattle.protocol.specs.Rehearsals.{Rehearsed, call-of, answer-of}
 use Rattle.graphml.specs.declared.answer.Exported.{Exported}
 use Rattle.graphml.specs.declared.answer.Refusal.{Refusal}
+use Rattle.graphml.specs.Cut.{tags, EndsAt}
+use Rattle.graphml.specs.Body.{body}
+use Rattle.graphml.specs.Edges.{edges-among}
+use Rattle.graphml.specs.Nested.{WellNested}
+use Rattle.graphml.specs.Answer.{part}
 use Rattle.graphml.specs.Export.{export-answer, export-bytes}
 
 -- the table beside the records in the first n slots
@@ -41,10 +47,22 @@ pub record Keeps-the-rules (m : Meaning) (plan : Plan) (room : ℕ) (steps : Lis
   -- the arrivals of the log are the deliveries not refused, in their order
   pub arrivals-are-the-deliveries : edges 0 (s .log) ≡ deliveries m plan room (map call-of steps) (opened m plan)
 
+-- of the file in an output that was out and is out′ then
+pub record Shows-the-run (m : Meaning) (plan : Plan) (room : ℕ) (steps : List Step) (s : Play) (out out′ : List ℕ) (answer : Result Exported Refusal) : Type 0 where
+  -- the output holds the defined file, and after it what it held; the answer tells of it
+  pub answer-as-defined : answer ≡ export-answer s (plan .n) (length out)
+  pub bytes-as-defined : out′ ≡ export-bytes s (plan .n) out
+  -- each opened element is closed, inner before outer
+  pub closed-inner-before-outer : made answer (λ x. WellNested (take (x .bytes) out′))
+  -- a cut file has the first elements of all, and the next did not fit
+  pub cut-at-the-first-that-does-not-fit : made answer (λ x. x .whole ≡ false → EndsAt (length out - 275) (body (s .log) (plan .n)))
+  -- a whole file has one edge for each delivery not refused, in their order, and no other
+  pub edges-are-the-deliveries :
+      made answer (λ x. x .whole ≡ true → edges-among (tags (part (s .log) (plan .n) (length out))) ≡ deliveries m plan room (map call-of steps) (opened m plan))
+
+-- the whole promise
 pub record Promised (m : Meaning) (plan : Plan) (steps : List Step) (t : Table) (n : ℕ) (slots slots′ : List Happening) (out out′ : List ℕ) (answer : Result Exported Refusal) : Type 0 where
   pub run : Keeps-the-rules m plan (length slots) steps (played t n slots′)
   -- every slot past the log's end holds what it held
   pub later-slots-kept : drop n slots′ ≡ drop n slots
-  -- the output holds the file, and the answer tells of it
-  pub told : answer ≡ export-answer (played t n slots′) (plan .n) (length out)
-  pub written : out′ ≡ export-bytes (played t n slots′) (plan .n) out
+  pub file : Shows-the-run m plan (length slots) steps (played t n slots′) out out′ answer

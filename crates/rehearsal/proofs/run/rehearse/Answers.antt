@@ -10,15 +10,14 @@ use Rattle.slots.specs.Slots.{capacity}
 use Rattle.slots.proofs.Growing.{extends-trans, fresh, items-length}
 use Rattle.protocol.specs.declared.call.Step.{Step}
 use Rattle.protocol.specs.declared.happening.Happening.{Happening}
-use Rattle.protocol.specs.declared.plan.Plan.{Plan}
 use Rattle.protocol.specs.Answers.{told}
 use Rattle.protocol.specs.Group.{Play, opened}
 use Rattle.protocol.specs.Runs.{number, perform}
 use Rattle.protocol.specs.Rehearsals.{Rehearsed, call-of}
 use Rattle.protocol.proofs.Rehearsal.{map-set, more, ends, beats}
 use Rattle.group.specs.Views.{play}
-use Rattle.graphml.specs.Export.{export-answer, export-bytes}
 use Rattle.rehearsal.specs.Promise.{Keeps-the-rules, Promised}
+use Rattle.rehearsal.proofs.Shown.{shows}
 use Rattle.rehearsal.proofs.run.rehearse.Needs as need
 
 pub loop-i-again : need.loop-i-again
@@ -76,8 +75,8 @@ returns g c =
     let promise : Promised m plan xs (c .loop-i .group .table) (l′ .len) slots (now (l′ .slots)) (c .args .out .now) (c .export-exported .last .out) (c .export-exported .result) = record {
       run = run;
       later-slots-kept = inv .4 .later ∙ ap (λ (ys : List Happening). drop (l′ .len) ys) lent;
-      told = x .answer ∙ ap (λ (p : Plan). export-answer s (p .n) (length (c .args .out .now))) (inv .3 ∙ o .plan);
-      written = x .bytes ∙ ap (λ (p : Plan). export-bytes s (p .n) (c .args .out .now)) (inv .3 ∙ o .plan);
+      file = shows m plan (length slots) xs s _ _ _ (c .loop-i .group .plan) (inv .3 ∙ o .plan) (b .edges-are)
+          (x .answer) (x .bytes) (x .nested) (x .cut) (x .edges);
     } in
     let tie = inv .4 .lent ∙ c .new-log .ensures .lent in
     let back : (k : ℕ) (ys : List Happening) → k ≡ l′ .len → ys ≡ now (l′ .slots) → Promised m plan xs (c .loop-i .group .table) k slots ys (c .args .out .now) (c .export-exported .last .out) (c .export-exported .result) =

@@ -1,0 +1,2 @@
+mod Rereading
+mod Loads
