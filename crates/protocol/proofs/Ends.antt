@@ -1,10 +1,9 @@
--- The laws of runs, from what each call keeps. Assumes nothing.
-use Prim.Native.Nat.{ℕ, suc, _+_, _-_, _≤_, _<_}
-use mathlib.Core.Path.{_≡_, refl, sym, ap, _∙_, subst}
-use mathlib.Core.Bool.{Bool, true, false, _&&_}
-use mathlib.Core.List.{List}
+-- The laws of runs, from what each call keeps.
+use Prim.Native.Nat.{ℕ, _+_, _-_, _≤_, _<_}
+use mathlib.Core.Path.{_≡_, refl, subst}
+use mathlib.Core.Bool.{Bool, true}
 use native.Mathlib.Omega.{arith}
-use lib.ListN.{length, getD}
+use lib.ListN.{length}
 use Rattle.std.proofs.shelf.Ways.{tells}
 use Rattle.protocol.specs.declared.party.Party.{Party}
 use Rattle.protocol.specs.declared.party.Stage.{Stage}
@@ -18,12 +17,10 @@ use Rattle.protocol.specs.declared.table.Root.{Root}
 use Rattle.protocol.specs.declared.table.Root.the-variants.{Running, Down}
 use Rattle.protocol.specs.declared.kind.GroupKind.{GroupKind}
 use Rattle.protocol.specs.declared.plan.Plan.{Plan}
-use Rattle.protocol.specs.declared.call.Call.{Call}
 use Rattle.pace.specs.Meaning.{Meaning, Lawful}
-use Rattle.protocol.specs.Patience.{patience}
 use Rattle.protocol.specs.Group.{Play, the, opened}
-use Rattle.protocol.specs.Runs.{played, answered, unharmed}
-use Rattle.protocol.specs.Laws.{Ended-at, Root-ended-at, Root-follows, Parties-follow, Stops-for-cause, Nobody-stopped, End-together-for-cause, Runs-end-together-for-cause}
+use Rattle.protocol.specs.Runs.{played}
+use Rattle.protocol.specs.Laws.{Root-follows, Parties-follow, Stops-for-cause, Nobody-stopped, Runs-end-together-for-cause}
 use Rattle.protocol.specs.Kept.{Terms, Lawful-terms, Kept, Scene, Whole, terms}
 use Rattle.protocol.proofs.Numbers.{lawful}
 use Rattle.protocol.proofs.Whole.{plays, opens}

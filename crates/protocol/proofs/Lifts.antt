@@ -1,6 +1,6 @@
--- From one element of a list to each. Assumes nothing.
-use Prim.Native.Nat.{ℕ, zero, suc, _+_, _≤_, _<_, min}
-use mathlib.Core.Path.{_≡_, refl, sym, ap, _∙_, subst}
+-- From one element of a list to each.
+use Prim.Native.Nat.{ℕ, zero, suc, _+_, _≤_, _<_}
+use mathlib.Core.Path.{_≡_, refl, sym, ap, _∙_}
 use mathlib.Core.Bool.{Bool, true, false, _||_}
 use mathlib.Core.List.{List, [], _∷_}
 use native.Mathlib.Omega.{arith}
@@ -14,6 +14,15 @@ set-each P (x ∷ xs) zero zero a d pa h = pa refl
 set-each P (x ∷ xs) zero (suc k) a d pa h = h
 set-each P (x ∷ xs) (suc i) zero a d pa h = h
 set-each P (x ∷ xs) (suc i) (suc k) a d pa h = set-each P xs i k a d (λ e. pa (ap suc e)) h
+
+-- of the same list changed at one place in two ways
+pub set-two :
+    {A : Type 0} (P : A → A → Type 0) (xs : List A) (i k : ℕ) (a b d : A) → (i ≡ k → P a b) → P (getD xs k d) (getD xs k d) → P (getD (set xs i a) k d) (getD (set xs i b) k d)
+set-two P [] i k a b d pab h = h
+set-two P (x ∷ xs) zero zero a b d pab h = pab refl
+set-two P (x ∷ xs) zero (suc k) a b d pab h = h
+set-two P (x ∷ xs) (suc i) zero a b d pab h = h
+set-two P (x ∷ xs) (suc i) (suc k) a b d pab h = set-two P xs i k a b d (λ e. pab (ap suc e)) h
 
 pub length-set : {A : Type 0} (xs : List A) (i : ℕ) (a : A) → length (set xs i a) ≡ length xs
 length-set [] i a = refl
@@ -38,6 +47,20 @@ module _ {S A : Type 0} (f : ℕ → S → A → A) (g : ℕ → S → A → S) 
   walks-each P Q step j (suc n) s (x ∷ xs) d zero h long p = step j s x p
   walks-each P Q step j (suc n) s (x ∷ xs) d (suc k) h long p =
       walks-each P Q step (suc j) n (g j s x) xs d k (omega arith) (omega arith) p
+
+  -- the element at k after a walk, by the state at its stop
+  pub walks-at : (j n : ℕ) (s : S) (xs : List A) (d : A) (k : ℕ) → k < n → n ≤ length xs → getD (walks f g j n s xs) k d ≡ f (k + j) (folds g j k s xs) (getD xs k d)
+  walks-at j zero s xs d k h long = absurd (omega arith)
+  walks-at j (suc n) s [] d k h long = absurd (omega arith)
+  walks-at j (suc n) s (x ∷ xs) d zero h long = ap (λ i. f i s x) (omega arith)
+  walks-at j (suc n) s (x ∷ xs) d (suc k) h long =
+      walks-at (suc j) n (g j s x) xs d k (omega arith) (omega arith) ∙ ap (λ i. f i (folds g (suc j) k (g j s x) xs) (getD xs k d)) (omega arith)
+
+  pub folds-next : (j : ℕ) (s : S) (xs : List A) (d : A) (k : ℕ) → k < length xs → folds g j (suc k) s xs ≡ g (k + j) (folds g j k s xs) (getD xs k d)
+  folds-next j s [] d k h = absurd (omega arith)
+  folds-next j s (x ∷ xs) d zero h = ap (λ i. g i s x) (omega arith)
+  folds-next j s (x ∷ xs) d (suc k) h =
+      folds-next (suc j) (g j s x) xs d k (omega arith) ∙ ap (λ i. g i (folds g (suc j) k (g j s x) xs) (getD xs k d)) (omega arith)
 
 module _ {A : Type 0} (f : A → Bool) where
   any-start : (j n : ℕ) (b : Bool) (xs : List A) → folds (λ _ b x. b || f x) j n b xs ≡ false → b ≡ false

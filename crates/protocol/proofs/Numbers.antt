@@ -1,17 +1,15 @@
--- The numbers of a sound pace. Assumes nothing.
-use Prim.Native.Nat.{ℕ, zero, suc, _+_, _≤_, _<_}
-use mathlib.Core.Path.{_≡_, refl, _∙_, ap, sym}
-use mathlib.Core.List.{List, [], _∷_}
+-- The numbers of a sound pace.
+use Prim.Native.Nat.{_+_}
+use mathlib.Core.Path.{refl}
 use native.Mathlib.Omega.{arith}
 use native.Mathlib.Numerals.{add-one}
-use lib.ListN.{length, getD, drop, take}
 use Rattle.std.specs.shelf.Lists.{sum}
 use Rattle.std.proofs.shelf.Sums.{sumBy-drop-more, sumBy-take-drop, getD-le-sumBy}
 use Rattle.protocol.specs.declared.kind.GroupKind.{GroupKind}
 use Rattle.protocol.specs.declared.kind.GroupKind.the-variants.{Closed, Expanding, Dynamic}
 use Rattle.pace.specs.Meaning.{Meaning, Lawful}
 use Rattle.protocol.specs.Patience.{patience}
-use Rattle.protocol.specs.Kept.{Terms, Lawful-terms, Bears, terms}
+use Rattle.protocol.specs.Kept.{Lawful-terms, Bears, terms}
 
 bears-it : (m : Meaning) (kind : GroupKind) → Bears kind (patience m kind) (m .tmax + sum (m .waits)) (m .tmin)
 bears-it m Closed = omega arith

@@ -1,73 +1,90 @@
--- Ending a log may grow. Assumes nothing.
-use Prim.Native.Nat.{ℕ, zero, suc, _+_, _≤_, _<_}
+-- How a log may grow: record by record.
+use Prim.Native.Nat.{ℕ, zero, suc, _+_, _-_, _≤_, _<_}
 use mathlib.Core.Path.{_≡_, refl, sym, ap, _∙_, subst}
-use mathlib.Core.Bool.{Bool, true, false, cond}
+use mathlib.Core.Bool.{Bool, true, false, cond, _||_}
 use mathlib.Core.List.{List, [], _∷_, _++_}
 use native.Mathlib.Omega.{arith}
-use native.Mathlib.Nat.{add-zero, zero-add}
+use native.Mathlib.Nat.{add-zero}
 use native.Mathlib.Decide.{decLt}
-use lib.ListN.{length, getD}
-use Rattle.std.proofs.shelf.Lists.{append-nil, append-assoc, length-append, getD-append-left, getD-push}
-use Rattle.std.proofs.shelf.Ways.{tells}
-use Rattle.protocol.specs.declared.happening.HappeningKind.{HappeningKind}
+use lib.ListN.{length}
+use Rattle.std.proofs.shelf.Sorted.{rises-push}
+use Rattle.std.proofs.shelf.Lists.{append-nil, length-push, getD-append-left, getD-push}
 use Rattle.protocol.specs.declared.happening.HappeningKind.the-variants.{Sent, Arrived}
 use Rattle.protocol.specs.declared.happening.Happening.{Happening}
-use Rattle.protocol.specs.Walk.{folds, walks}
-use Rattle.protocol.specs.Group.{happens, tells-of, links}
-use Rattle.protocol.specs.Beats.{is-arrival, nothing, Sent-by, Other-end, Linked-at, Linked, Edge, edge, edges}
+use Rattle.protocol.specs.Walk.{folds}
+use Rattle.protocol.specs.Group.{happens, links}
+use Rattle.protocol.specs.Runs.{tick-of}
+use Rattle.protocol.specs.Beats.{is-arrival, is-loss, settles, nothing, happening-at, Sent-by, Other-end, Linked-at, Lost-at, Linked, Losses-linked, edge, edges}
+use Rattle.protocol.specs.Order.{In-order}
+use Rattle.protocol.proofs.Lifts.{getD-any}
 
--- the log has grown by records that are no arrivals
-pub record Onward (n : ℕ) (log log′ : List Happening) : Type 0 where
+-- the log has grown by records of tick c that are neither arrivals nor losses
+pub record Onward (c : ℕ) (log log′ : List Happening) : Type 0 where
   pub keeps : (o k : ℕ) → Sent-by log o k → Sent-by log′ o k
-  pub links : Linked n log → Linked n log′
+  pub settled : (k : ℕ) → k < length log′ → settles (happening-at log′ k .kind) ≡ true → (k < length log) × (happening-at log′ k ≡ happening-at log k)
+  pub longer : length log ≤ length log′
   pub same : edges 0 log′ ≡ edges 0 log
+  pub order : In-order c log → In-order c log′
 
-pub stay : (n : ℕ) (log : List Happening) → Onward n log log
-stay n log = record { keeps = λ o k h. h; links = λ h. h; same = refl }
+pub stay : (c : ℕ) (log : List Happening) → Onward c log log
+stay c log = record { keeps = λ o k h. h; settled = λ k h is. (h, refl); longer = omega arith; same = refl; order = λ h. h }
 
-pub further : (n : ℕ) (a b c : List Happening) → Onward n a b → Onward n b c → Onward n a c
-further n a b c f g = record { keeps = λ o k h. g .keeps o k (f .keeps o k h); links = λ h. g .links (f .links h); same = g .same ∙ f .same }
+pub further : (c : ℕ) (x y z : List Happening) → Onward c x y → Onward c y z → Onward c x z
+further c x y z f g = record {
+  keeps = λ o k h. g .keeps o k (f .keeps o k h);
+  settled = λ k h is.
+      let a = g .settled k h is in
+      let b = f .settled k (a .0) (ap (λ (h : Happening). settles (h .kind)) (sym (a .1)) ∙ is) in
+      (b .0, a .1 ∙ b .1);
+  longer = omega (arith, f .longer, g .longer);
+  same = g .same ∙ f .same;
+  order = λ h. g .order (f .order h);
+}
 
-length-push : {A : Type 0} (xs : List A) (x : A) → length (xs ++ (x ∷ [])) ≡ suc (length xs)
-length-push xs x = omega (arith, length-append xs (x ∷ []))
+clash : (b : Bool) → b ≡ true → b ≡ false → ⊥
+clash b e f = let z : _≡_ {A = ℕ} 0 1 = cc in omega arith
 
-pub keeps-push : (log : List Happening) (h : Happening) (o k : ℕ) → Sent-by log o k → Sent-by (log ++ (h ∷ [])) o k
-keeps-push log h o k s =
-    let e = getD-append-left log (h ∷ []) nothing k (s .below) in
-    record { below = omega (arith, length-push log h, s .below); kind = ap (λ (x : Happening). x .kind) e ∙ s .kind; owner = ap (λ (x : Happening). x .owner) e ∙ s .owner }
+-- a record more, of any kind
 
-pub sent-push : (log : List Happening) (c o l : ℕ) → Sent-by (log ++ (happens c o Sent l ∷ [])) o (length log)
+module _ (log : List Happening) (h : Happening) where
+  pub keeps-push : (o k : ℕ) → Sent-by log o k → Sent-by (log ++ h ∷ []) o k
+  keeps-push o k s =
+      let e = getD-append-left log (h ∷ []) nothing k (s .below) in
+      record { below = omega (arith, length-push log h, s .below); kind = ap (λ (x : Happening). x .kind) e ∙ s .kind; owner = ap (λ (x : Happening). x .owner) e ∙ s .owner }
+
+  -- what holds of each place and its record, if it holds of the new one
+  pub every-push : (P : ℕ → Happening → Type 0) → ((k : ℕ) → k < length log → P k (happening-at log k)) → P (length log) h → (k : ℕ) → k < length (log ++ h ∷ []) → P k (happening-at (log ++ h ∷ []) k)
+  every-push P old new k below = elim (decLt k (length log)) [ yes x ↦ early x | no x ↦ latest (omega (arith, length-push log h)) ]
+    where
+      early : k < length log → P k (happening-at (log ++ h ∷ []) k)
+      early x = subst (P k) (sym (getD-append-left log (h ∷ []) nothing k x)) (old k x)
+
+      latest : k ≡ length log → P k (happening-at (log ++ h ∷ []) k)
+      latest x = subst (P k) (sym (getD-push log h nothing k (sym x))) (subst (λ j. P j h) (sym x) new)
+
+  pub order-push : (c : ℕ) → h .tick ≡ c → In-order c log → In-order c (log ++ h ∷ [])
+  order-push c e o = record {
+    rises = rises-push tick-of log h (o .rises)
+        (λ d pos. omega (arith, e, ap tick-of (getD-any log (length log - 1) d nothing (omega arith)), o .none-later (length log - 1) (omega arith)));
+    none-later = every-push (λ k x. x .tick ≤ c) (o .none-later) (omega (arith, e));
+  }
+
+  -- the links of the arrivals, where a new arrival has its own
+  pub linked-push : (n : ℕ) → (is-arrival (h .kind) ≡ true → (o : ℕ) × Sent-by log o (h .link) × Other-end n o (h .owner)) → Linked n log → Linked n (log ++ h ∷ [])
+  linked-push n new old = every-push (λ k x. is-arrival (x .kind) ≡ true → Linked-at n (log ++ h ∷ []) k x)
+      (λ k below is. let l = old k below is in record { earlier = l .earlier; by = l .by; sending = keeps-push _ _ (l .sending); other = l .other })
+      (λ is. let l = new is in record { earlier = l .1 .below; by = l .0; sending = keeps-push _ _ (l .1); other = l .2 })
+
+  -- the links of the losses, where a new loss has its own
+  pub losses-push : (is-loss (h .kind) ≡ true → Sent-by log (h .owner) (h .link)) → Losses-linked log → Losses-linked (log ++ h ∷ [])
+  losses-push new old = every-push (λ k x. is-loss (x .kind) ≡ true → Lost-at (log ++ h ∷ []) k x)
+      (λ k below is. let l = old k below is in record { earlier = l .earlier; sending = keeps-push _ _ (l .sending) })
+      (λ is. let l = new is in record { earlier = l .below; sending = keeps-push _ _ l })
+
+pub sent-push : (log : List Happening) (c o l : ℕ) → Sent-by (log ++ happens c o Sent l ∷ []) o (length log)
 sent-push log c o l =
     let e = getD-push log (happens c o Sent l) nothing (length log) refl in
     record { below = omega (arith, length-push log (happens c o Sent l)); kind = ap (λ (x : Happening). x .kind) e; owner = ap (λ (x : Happening). x .owner) e }
-
--- one record more keeps the links, if its own is one where it is an arrival
-pub linked-push :
-    (n : ℕ) (log : List Happening) (h : Happening) →
-    (is-arrival (h .kind) ≡ true → (o : ℕ) × Sent-by log o (h .link) × Other-end n o (h .owner)) → Linked n log → Linked n (log ++ (h ∷ []))
-linked-push n log h new old k below is = elim (decLt k (length log)) [ yes x ↦ early x | no x ↦ latest (omega (arith, length-push log h)) ]
-  where
-    early : k < length log → Linked-at n (log ++ (h ∷ [])) k
-    early x =
-        let e = getD-append-left log (h ∷ []) nothing k x in
-        let l = old k x (ap (λ (y : Happening). is-arrival (y .kind)) (sym e) ∙ is) in
-        record {
-          earlier = subst (λ (y : Happening). y .link < k) (sym e) (l .earlier);
-          by = l .by;
-          sending = subst (λ (y : Happening). Sent-by (log ++ (h ∷ [])) (l .by) (y .link)) (sym e) (keeps-push log h _ _ (l .sending));
-          other = subst (λ (y : Happening). Other-end n (l .by) (y .owner)) (sym e) (l .other);
-        }
-
-    latest : k ≡ length log → Linked-at n (log ++ (h ∷ [])) k
-    latest x =
-        let e = getD-push log h nothing k (sym x) in
-        let l = new (ap (λ (y : Happening). is-arrival (y .kind)) (sym e) ∙ is) in
-        record {
-          earlier = subst (λ (y : Happening). y .link < k) (sym e) (omega (arith, l .1 .below));
-          by = l .0;
-          sending = subst (λ (y : Happening). Sent-by (log ++ (h ∷ [])) (l .0) (y .link)) (sym e) (keeps-push log h _ _ (l .1));
-          other = subst (λ (y : Happening). Other-end n (l .0) (y .owner)) (sym e) (l .2);
-        }
 
 edges-append : (k : ℕ) (xs ys : List Happening) → edges k (xs ++ ys) ≡ edges k xs ++ edges (k + length xs) ys
 edges-append k [] ys = rw add-zero
@@ -80,42 +97,58 @@ edges-append k (x ∷ xs) ys =
     go true e = ap (λ es. edge (x .link) k ∷ es) e
     go false e = e
 
-edges-push : (log : List Happening) (h : Happening) → edges 0 (log ++ (h ∷ [])) ≡ edges 0 log ++ cond (is-arrival (h .kind)) (edge (h .link) (length log) ∷ []) []
+edges-push : (log : List Happening) (h : Happening) → edges 0 (log ++ h ∷ []) ≡ edges 0 log ++ cond (is-arrival (h .kind)) (edge (h .link) (length log) ∷ []) []
 edges-push log h = edges-append 0 log (h ∷ []) ∙ ap (λ j. edges 0 log ++ cond (is-arrival (h .kind)) (edge (h .link) j ∷ []) []) (omega arith)
 
-pub told : (n : ℕ) (log : List Happening) (h : Happening) → is-arrival (h .kind) ≡ false → Onward n log (log ++ (h ∷ []))
-told n log h e = record {
-  keeps = keeps-push log h;
-  links = linked-push n log h (λ y. absurd (clash y e));
-  same = edges-push log h ∙ ap (λ b. edges 0 log ++ cond b (edge (h .link) (length log) ∷ []) []) e ∙ append-nil (edges 0 log);
-}
-  where
-    clash : is-arrival (h .kind) ≡ true → is-arrival (h .kind) ≡ false → ⊥
-    clash a b = let z : _≡_ {A = ℕ} 0 1 = cc in omega arith
+-- a record that is no arrival adds no edge
+pub edges-same : (log : List Happening) (h : Happening) → is-arrival (h .kind) ≡ false → edges 0 (log ++ h ∷ []) ≡ edges 0 log
+edges-same log h e = edges-push log h ∙ ap (λ b. edges 0 log ++ cond b (edge (h .link) (length log) ∷ []) []) e ∙ append-nil (edges 0 log)
 
-pub arrived : (log : List Happening) (c r place : ℕ) → edges 0 (links c r Arrived place log) ≡ edges 0 log ++ (edge place (length log) ∷ [])
+pub arrived : (log : List Happening) (c r place : ℕ) → edges 0 (links c r Arrived place log) ≡ edges 0 log ++ edge place (length log) ∷ []
 arrived log c r place = edges-push log (happens c r Arrived place)
 
--- a fold over a log that goes onward at each step
-pub folds-onward :
-    {A : Type 0} (n : ℕ) (g : ℕ → List Happening → A → List Happening) → ((j : ℕ) (s : List Happening) (x : A) → Onward n s (g j s x)) →
-    (j i : ℕ) (s : List Happening) (xs : List A) → Onward n s (folds g j i s xs)
-folds-onward n g step j zero s xs = stay n s
-folds-onward n g step j (suc i) s [] = stay n s
-folds-onward n g step j (suc i) s (x ∷ xs) = further n _ _ _ (step j s x) (folds-onward n g step (suc j) i (g j s x) xs)
+settles-neither : (a b : Bool) → (a || b) ≡ false → a ≡ false
+settles-neither true b e = e
+settles-neither false b e = refl
 
--- what holds of a log, a number and an element, and lasts as the log goes onward, holds of each of the first i after a walk
-pub walks-onward :
-    {A : Type 0} (n : ℕ) (f : ℕ → List Happening → A → A) (g : ℕ → List Happening → A → List Happening) (P : List Happening → ℕ → A → Type 0) →
-    ((j : ℕ) (s : List Happening) (x : A) → Onward n s (g j s x)) →
-    ((j : ℕ) (s s′ : List Happening) (x : A) → Onward n s s′ → P s j x → P s′ j x) →
-    ((j : ℕ) (s : List Happening) (x : A) → P s j x → P (g j s x) j (f j s x)) →
-    (j i : ℕ) (s : List Happening) (xs : List A) (d : A) (k : ℕ) → k < i → i ≤ length xs →
-    P s (k + j) (getD xs k d) → P (folds g j i s xs) (k + j) (getD (walks f g j i s xs) k d)
-walks-onward n f g P grows lasts step j zero s xs d k h long p = absurd (omega arith)
-walks-onward n f g P grows lasts step j (suc i) s [] d k h long p = absurd (omega arith)
-walks-onward n f g P grows lasts step j (suc i) s (x ∷ xs) d zero h long p =
-    rw zero-add (lasts j _ _ _ (folds-onward n g grows (suc j) i (g j s x) xs) (step j s x (rw zero-add at p)))
-walks-onward n f g P grows lasts step j (suc i) s (x ∷ xs) d (suc k) h long p =
-    let e : suc k + j ≡ k + suc j = omega arith in
-    rw e (walks-onward n f g P grows lasts step (suc j) i (g j s x) xs d k (omega arith) (omega arith) (lasts _ _ _ _ (grows j s x) (rw e at p)))
+-- one record more that is neither an arrival nor a loss
+pub told : (c : ℕ) (log : List Happening) (h : Happening) → h .tick ≡ c → settles (h .kind) ≡ false → Onward c log (log ++ h ∷ [])
+told c log h now no-settling = record {
+  keeps = keeps-push log h;
+  settled = λ k below. every-push log h (λ k x. settles (x .kind) ≡ true → (k < length log) × (x ≡ happening-at log k))
+      (λ k below is. (below, refl)) (λ is. absurd (clash _ is no-settling)) k below;
+  longer = omega (arith, length-push log h);
+  same = edges-same log h (settles-neither _ _ no-settling);
+  order = order-push log h c now;
+}
+
+-- what follows of the links
+
+pub onward-linked : (n c : ℕ) (log log′ : List Happening) → Onward c log log′ → Linked n log → Linked n log′
+onward-linked n c log log′ w old k below is =
+    let s = w .settled k below (ap (λ b. b || is-loss (happening-at log′ k .kind)) is) in
+    let l = old k (s .0) (ap (λ (x : Happening). is-arrival (x .kind)) (sym (s .1)) ∙ is) in
+    subst (Linked-at n log′ k) (sym (s .1)) (record { earlier = l .earlier; by = l .by; sending = w .keeps _ _ (l .sending); other = l .other })
+
+loss-settles : (a b : Bool) → b ≡ true → (a || b) ≡ true
+loss-settles true b e = refl
+loss-settles false b e = e
+
+pub onward-losses : (c : ℕ) (log log′ : List Happening) → Onward c log log′ → Losses-linked log → Losses-linked log′
+onward-losses c log log′ w old k below is =
+    let s = w .settled k below (loss-settles (is-arrival (happening-at log′ k .kind)) _ is) in
+    let l = old k (s .0) (ap (λ (x : Happening). is-loss (x .kind)) (sym (s .1)) ∙ is) in
+    subst (Lost-at log′ k) (sym (s .1)) (record { earlier = l .earlier; sending = w .keeps _ _ (l .sending) })
+
+-- a fold that goes onward at each step goes onward from each of its stops to each later one
+module _ {A : Type 0} (c : ℕ) (g : ℕ → List Happening → A → List Happening) (grows : (j : ℕ) (s : List Happening) (x : A) → Onward c s (g j s x)) where
+  pub folds-onward : (j i : ℕ) (s : List Happening) (xs : List A) → Onward c s (folds g j i s xs)
+  folds-onward j zero s xs = stay c s
+  folds-onward j (suc i) s [] = stay c s
+  folds-onward j (suc i) s (x ∷ xs) = further c _ _ _ (grows j s x) (folds-onward (suc j) i (g j s x) xs)
+
+  pub folds-between : (j i n : ℕ) (s : List Happening) (xs : List A) → i ≤ n → Onward c (folds g j i s xs) (folds g j n s xs)
+  folds-between j zero n s xs h = folds-onward j n s xs
+  folds-between j (suc i) zero s xs h = absurd (omega arith)
+  folds-between j (suc i) (suc n) s [] h = stay c s
+  folds-between j (suc i) (suc n) s (x ∷ xs) h = folds-between (suc j) i n (g j s x) xs (omega arith)

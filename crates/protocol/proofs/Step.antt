@@ -1,4 +1,4 @@
--- One call keeps what holds of one party. Assumes nothing.
+-- One call keeps what holds of one party.
 use Prim.Native.Nat.{ℕ, suc, _+_, _-_, _%_, _≤_, _<_}
 use mathlib.Core.Path.{_≡_, refl, ap, _∙_}
 use lib.Dec.{leb, eqb}
@@ -10,20 +10,18 @@ use Rattle.std.specs.declared.option.Option.{Option}
 use Rattle.std.specs.declared.option.Option.the-variants.{Some, None}
 use Rattle.protocol.specs.declared.party.Party.{Party}
 use Rattle.protocol.specs.declared.party.Beat.{Beat}
-use Rattle.protocol.specs.declared.party.Legs.{Legs}
 use Rattle.protocol.specs.declared.party.Stage.{Stage}
 use Rattle.protocol.specs.declared.party.Stage.the-variants.{Joining, In, Leaving}
 use Rattle.protocol.specs.declared.party.Ending.{Ending}
-use Rattle.protocol.specs.declared.party.Ending.the-variants.{Crashed, Stopped, Left}
+use Rattle.protocol.specs.declared.party.Ending.the-variants.{Crashed, Stopped}
 use Rattle.protocol.specs.declared.party.Standing.{Standing}
 use Rattle.protocol.specs.declared.party.Standing.the-variants.{Outside, Live, Ended}
-use Rattle.protocol.specs.declared.party.Roll.{Roll}
-use Rattle.protocol.specs.declared.party.Roll.the-variants.{Off, On, Struck}
+use Rattle.protocol.specs.declared.party.Roll.the-variants.{On}
 use Rattle.protocol.specs.declared.table.Root.{Root}
 use Rattle.protocol.specs.declared.table.Root.the-variants.{Running, Down}
 use Rattle.protocol.specs.declared.kind.GroupKind.{GroupKind}
 use Rattle.protocol.specs.declared.kind.GroupKind.the-variants.{Closed, Expanding, Dynamic}
-use Rattle.protocol.specs.Party.{beat, noted, owning, legs-of, party, hears-as, arrives, heeds, on-leg, off-leg, off-out, off-reply, off-entry, answers, crashes, joined, left, missed, sends, lost, due, times, times-as, times-live, calls-in, live, fresh}
+use Rattle.protocol.specs.Party.{hears-as, arrives, heeds, on-leg, off-leg, off-out, off-reply, off-entry, answers, crashes, joined, left, missed, sends, lost, due, times, times-as, times-live, calls-in, live, fresh}
 use Rattle.protocol.specs.Kept.{Terms, Lawful-terms, Kept, Scene, Gone}
 
 whole-step : (c n : ℕ) → (c + n - c) % n ≡ 0

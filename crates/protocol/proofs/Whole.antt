@@ -1,28 +1,26 @@
--- What holds of a whole group between the calls of a run, and that each call keeps it. Assumes nothing.
-use Prim.Native.Nat.{ℕ, zero, suc, _+_, _-_, _≤_, _<_, min}
-use mathlib.Core.Path.{_≡_, refl, sym, ap, _∙_, subst}
-use mathlib.Core.Bool.{Bool, true, false, cond, not, _&&_, _||_}
+-- What holds of a whole group between the calls of a run, and that each call keeps it.
+use Prim.Native.Nat.{ℕ, zero, suc, _+_, _-_, _≤_, _<_}
+use mathlib.Core.Path.{_≡_, refl, sym, ap, subst}
+use mathlib.Core.Bool.{Bool, true, false, not, _&&_}
 use mathlib.Core.List.{List, [], _∷_}
 use native.Mathlib.Omega.{arith}
-use lib.Dec.{leb, eqb}
-use lib.ListN.{length, getD, set, replicate}
+use lib.Dec.{eqb}
+use lib.ListN.{length, getD, set}
 use Rattle.std.proofs.shelf.Ways.{tells}
 use Rattle.std.proofs.shelf.Maps.{nth-getD}
 use Rattle.std.specs.declared.option.Option.{Option}
 use Rattle.std.specs.declared.option.Option.the-variants.{Some, None}
 use Rattle.protocol.specs.declared.party.Party.{Party}
 use Rattle.protocol.specs.declared.party.Beat.{Beat}
-use Rattle.protocol.specs.declared.party.Ending.{Ending}
-use Rattle.protocol.specs.declared.party.Ending.the-variants.{Crashed, Stopped, Left}
+use Rattle.protocol.specs.declared.party.Ending.the-variants.{Stopped}
 use Rattle.protocol.specs.declared.party.Stage.the-variants.{In}
 use Rattle.protocol.specs.declared.party.Standing.{Standing}
-use Rattle.protocol.specs.declared.party.Standing.the-variants.{Outside, Live, Ended}
-use Rattle.protocol.specs.declared.party.Roll.{Roll}
-use Rattle.protocol.specs.declared.party.Roll.the-variants.{Off, On, Struck}
+use Rattle.protocol.specs.declared.party.Standing.the-variants.{Outside, Live}
+use Rattle.protocol.specs.declared.party.Roll.the-variants.{On}
 use Rattle.protocol.specs.declared.table.Root.{Root}
 use Rattle.protocol.specs.declared.table.Root.the-variants.{Running, Down}
 use Rattle.protocol.specs.declared.kind.GroupKind.{GroupKind}
-use Rattle.protocol.specs.declared.kind.GroupKind.the-variants.{Closed, Expanding, Dynamic}
+use Rattle.protocol.specs.declared.kind.GroupKind.the-variants.{Closed}
 use Rattle.protocol.specs.declared.happening.Happening.{Happening}
 use Rattle.protocol.specs.declared.table.Table.{Table}
 use Rattle.protocol.specs.declared.plan.Plan.{Plan}
@@ -30,11 +28,10 @@ use Rattle.protocol.specs.declared.call.Call.{Call}
 use Rattle.protocol.specs.declared.call.Call.the-variants.{Tick, Deliver, Lose, Crash, Join, Leave}
 use Rattle.pace.specs.Meaning.{Meaning, Lawful}
 use Rattle.protocol.specs.Patience.{trip, patience}
-use Rattle.protocol.specs.Walk.{folds, walks}
-use Rattle.protocol.specs.Party.{nobody, fresh, on-leg, due, lost, missed, sends, listed}
+use Rattle.protocol.specs.Party.{nobody, fresh, on-leg, due, lost, missed, sends}
 use Rattle.protocol.specs.Group
-use Rattle.protocol.specs.Group.{Play, the, with-parties, with-root, delivered, delivered-as, loses, lost-as, crashed, root-crashed, joins, leaves, any, shorter, shortest, counted, settled-as, settled, rounded-as, rounded, round-ends, runs, timed, later, ticked, opened}
-use Rattle.protocol.specs.Runs.{number, done, unless, perform, played, answered, unharmed, spares, harms, asks, may-join, may-leave, is-outside, is-in, is-party, is-there, log-asks}
+use Rattle.protocol.specs.Group.{Play, the, with-parties, with-root, delivered, delivered-as, loses, lost-as, crashed, root-crashed, joins, leaves, any, shorter, shortest, counted, settled-as, rounded-as, rounded, round-ends, runs, timed, later, ticked, opened}
+use Rattle.protocol.specs.Runs.{number, done, unless, perform, played, answered, unharmed, spares, asks, may-join, may-leave, is-outside, is-in, is-party, is-there, log-asks}
 use Rattle.protocol.specs.Beats.{Free-for, Beats-take-free-legs}
 use Rattle.protocol.specs.Kept.{Terms, Lawful-terms, Kept, Scene, Whole, terms}
 use Rattle.protocol.proofs.Numbers.{lawful}

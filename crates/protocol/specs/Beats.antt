@@ -1,7 +1,7 @@
--- The beats of a run in its log. Assumes nothing: these are definitions and statements.
+-- The beats of a run as its log shows them: each is sent once, and arrives or is lost at most once.
 use Prim.Native.Nat.{ℕ, zero, suc, _-_, _%_, _≤_, _<_}
 use mathlib.Core.Path.{_≡_}
-use mathlib.Core.Bool.{Bool, true, false, cond}
+use mathlib.Core.Bool.{Bool, true, false, cond, _||_}
 use mathlib.Core.List.{List, [], _∷_, _++_}
 use lib.ListN.{length, getD}
 use Rattle.std.specs.declared.option.Option.{Option}
@@ -33,30 +33,62 @@ is-arrival Left = false
 is-arrival Joining = false
 is-arrival Leaving = false
 
+abbrev pub is-loss : HappeningKind → Bool
+is-loss Sent = false
+is-loss Arrived = false
+is-loss Lost = true
+is-loss Enrolled = false
+is-loss Struck = false
+is-loss Crashed = false
+is-loss Stopped = false
+is-loss Left = false
+is-loss Joining = false
+is-loss Leaving = false
+
+-- an arrival or a loss: what becomes of a beat that was sent
+abbrev pub settles : HappeningKind → Bool
+settles w = is-arrival w || is-loss w
+
 -- stands for a record where there is none
 abbrev pub nothing : Happening
 nothing = happens 0 0 Lost 0
 
+-- the record at place k of the log
+abbrev pub happening-at : List Happening → ℕ → Happening
+happening-at log k = getD log k nothing
+
 -- at place k of the log stands a sending by o
 pub record Sent-by (log : List Happening) (o k : ℕ) : Type 0 where
   pub below : k < length log
-  pub kind : getD log k nothing .kind ≡ Sent
-  pub owner : getD log k nothing .owner ≡ o
+  pub kind : happening-at log k .kind ≡ Sent
+  pub owner : happening-at log k .owner ≡ o
 
 -- o and r are the two ends of a leg: the root, and a party
 pub record Other-end (n o r : ℕ) : Type 0 where
   pub at-root : r ≡ 0 → (1 ≤ o) × (o ≤ n)
   pub at-party : 1 ≤ r → o ≡ 0
 
--- what the record at place k links to, if it is an arrival: an earlier sending by the other end
-pub record Linked-at (n : ℕ) (log : List Happening) (k : ℕ) : Type 0 where
-  pub earlier : getD log k nothing .link < k
+-- the record h at place k links to an earlier sending by the other end, as an arrival does
+pub record Linked-at (n : ℕ) (log : List Happening) (k : ℕ) (h : Happening) : Type 0 where
+  pub earlier : h .link < k
   pub by : ℕ
-  pub sending : Sent-by log by (getD log k nothing .link)
-  pub other : Other-end n by (getD log k nothing .owner)
+  pub sending : Sent-by log by (h .link)
+  pub other : Other-end n by (h .owner)
+
+-- the record h at place k links to an earlier sending by its own owner, as a loss does
+pub record Lost-at (log : List Happening) (k : ℕ) (h : Happening) : Type 0 where
+  pub earlier : h .link < k
+  pub sending : Sent-by log (h .owner) (h .link)
+
+-- each record of such a kind is, with its place, as Q says
+abbrev pub Each : (HappeningKind → Bool) → (ℕ → Happening → Type 0) → List Happening → Type 0
+Each is Q log = (k : ℕ) → k < length log → is (happening-at log k .kind) ≡ true → Q k (happening-at log k)
 
 abbrev pub Linked : ℕ → List Happening → Type 0
-Linked n log = (k : ℕ) → k < length log → is-arrival (getD log k nothing .kind) ≡ true → Linked-at n log k
+Linked n log = Each is-arrival (Linked-at n log) log
+
+abbrev pub Losses-linked : List Happening → Type 0
+Losses-linked log = Each is-loss (Lost-at log) log
 
 -- the sending and the arrival of a beat, by their places
 pub record Edge : Type 0 where
@@ -90,16 +122,44 @@ abbrev pub deliveries : Meaning → Plan → ℕ → List Call → Play → List
 deliveries m plan room [] s = []
 deliveries m plan room (call ∷ calls) s = delivery call (number plan room call s) s ++ deliveries m plan room calls (perform m plan room call s)
 
+-- each beat on a leg and each arrival goes back to a sending by the right end, each loss to one by its owner
 pub record Beats-are-logged (plan : Plan) (s : Play) : Type 0 where
   pub on-legs : (i leg : ℕ) (b : Beat) → 1 ≤ i → i ≤ plan .n → on-leg leg (the i (s .table)) ≡ Some b → Sent-by (s .log) (sender leg i) (b .place)
   pub arrivals : Linked (plan .n) (s .log)
+  pub losses : Losses-linked (s .log)
 
--- in every run each beat on a leg and each arrival goes back to its sending, and the arrivals are the deliveries
+-- in every run the beats are logged, and the edges of the log are the deliveries
 abbrev pub Runs-show-their-beats : Type 0
 Runs-show-their-beats =
     (m : Meaning) → Lawful m → (plan : Plan) (room : ℕ) (calls : List Call) →
     Beats-are-logged plan (played m plan room calls (opened m plan))
     × (edges 0 (played m plan room calls (opened m plan) .log) ≡ deliveries m plan room calls (opened m plan))
+
+-- no two arrivals or losses link to the same place
+abbrev pub Settled-once : List Happening → Type 0
+Settled-once log =
+    (j k : ℕ) → j < k → k < length log → settles (happening-at log j .kind) ≡ true → settles (happening-at log k .kind) ≡ true → happening-at log j .link ≡ happening-at log k .link → ⊥
+
+-- no arrival or loss links to the place
+abbrev pub Unsettled : List Happening → ℕ → Type 0
+Unsettled log place = (k : ℕ) → k < length log → settles (happening-at log k .kind) ≡ true → happening-at log k .link ≡ place → ⊥
+
+-- no two edges come from the same place
+abbrev pub Sources-differ : List Edge → Type 0
+Sources-differ es = (j k : ℕ) → j < k → k < length es → getD es j (edge 0 0) .source ≡ getD es k (edge 0 0) .source → ⊥
+
+-- no sending arrives or is lost twice, none whose beat is on a leg has arrived or been lost, and beats on different legs have different sendings
+pub record Sendings-settle-once (plan : Plan) (s : Play) : Type 0 where
+  pub once : Settled-once (s .log)
+  pub sources-differ : Sources-differ (edges 0 (s .log))
+  pub under-way : (i leg : ℕ) (b : Beat) → 1 ≤ i → i ≤ plan .n → on-leg leg (the i (s .table)) ≡ Some b → Unsettled (s .log) (b .place)
+  pub apart : (i leg : ℕ) (b : Beat) (i′ leg′ : ℕ) (b′ : Beat) → 1 ≤ i → i ≤ plan .n → 1 ≤ i′ → i′ ≤ plan .n →
+      on-leg leg (the i (s .table)) ≡ Some b → on-leg leg′ (the i′ (s .table)) ≡ Some b′ → b .place ≡ b′ .place → (i ≡ i′) × (leg ≡ leg′)
+
+-- in every run no sending is the source of two
+abbrev pub Runs-settle-each-sending-once : Type 0
+Runs-settle-each-sending-once =
+    (m : Meaning) → Lawful m → (plan : Plan) (room : ℕ) (calls : List Call) → Sendings-settle-once plan (played m plan room calls (opened m plan))
 
 -- the legs on which the call puts a beat are free
 abbrev pub Free-for : Meaning → Plan → Call → Play → Type 0

@@ -1,57 +1,153 @@
--- Runs played by hand, from the rules alone. Assumes nothing.
+-- Runs played by hand: each row has a group, its calls, and what should come of them, from the rules alone.
 use Prim.Native.Nat.{ℕ, zero, suc}
 use mathlib.Core.Path.{_≡_}
-use mathlib.Core.List.{List, [], _∷_, _++_}
+use mathlib.Core.Bool.{cond}
+use mathlib.Core.List.{List, [], _∷_, _++_, map}
 use lib.Dec.{lit≤}
 use lib.ListN.{length, replicate}
 use Rattle.protocol.specs.declared.party.Stage.the-variants.{Joining, In}
 use Rattle.protocol.specs.declared.party.Ending.the-variants.{Stopped, Crashed}
+use Rattle.protocol.specs.declared.party.Standing.{Standing}
 use Rattle.protocol.specs.declared.party.Standing.the-variants.{Ended, Live}
+use Rattle.protocol.specs.declared.table.Root.{Root}
 use Rattle.protocol.specs.declared.table.Root.the-variants.{Running, Down}
+use Rattle.protocol.specs.declared.kind.GroupKind.{GroupKind}
 use Rattle.protocol.specs.declared.kind.GroupKind.the-variants.{Closed, Expanding}
+use Rattle.protocol.specs.declared.happening.Happening.{Happening}
 use Rattle.protocol.specs.declared.plan.Plan.{Plan}
 use Rattle.protocol.specs.declared.call.Call.{Call}
-use Rattle.protocol.specs.declared.call.Call.the-variants.{Tick, Deliver, Lose, Crash, Join, Leave}
+use Rattle.protocol.specs.declared.call.Call.the-variants.{Tick, Deliver, Lose, Crash, Join}
 use Rattle.pace.specs.Meaning.{Meaning}
-use Rattle.protocol.specs.Group.{the, opened}
-use Rattle.protocol.specs.Runs.{played, answered, number}
+use Rattle.pace.specs.Waits.{halving}
+use Rattle.protocol.specs.Words.{kind-number}
+use Rattle.protocol.specs.Group.{Play, the, opened}
+use Rattle.protocol.specs.Runs.{played, answered}
+use lib.Dec.{eqb}
 
-abbrev pub one-closed : Plan
-one-closed = record { kind = Closed; n = 1; bounded = (lit≤ tt, lit≤ tt) }
+-- what comes of a run: the answers, how the root and party 1 end, the ticks of the sendings, and the number of records
+pub record Outcome : Type 0 where
+  pub answers : List ℕ
+  pub root : Root
+  pub party : Standing
+  pub sent-at : List ℕ
+  pub records : ℕ
 
-abbrev pub one-wide : Plan
-one-wide = record { kind = Expanding; n = 1; bounded = (lit≤ tt, lit≤ tt) }
-
-abbrev pub ten : Meaning
-ten = record { tmin = 1; tmax = 10; waits = 10 ∷ (5 ∷ (2 ∷ (1 ∷ []))) }
-
-abbrev pub unit : Meaning
-unit = record { tmin = 1; tmax = 1; waits = 1 ∷ [] }
-
-abbrev pub four : Meaning
-four = record { tmin = 2; tmax = 4; waits = 4 ∷ (2 ∷ []) }
-
--- the root crashes at 0, and the party stops at 28
-abbrev pub Party-stops : Type 0
-Party-stops = the 1 (played ten one-closed 100 (Crash 0 ∷ replicate 29 Tick) (opened ten one-closed) .table) .own .standing ≡ Ended Stopped 28 In
-
--- the party crashes at 0, and the root, each of its beats delivered, stops at 28
-abbrev pub tick-and-deliver : List Call
-tick-and-deliver = Tick ∷ (Deliver 1 1 ∷ [])
+-- a group of one party, its calls, and what should come of them
+pub record Case : Type 0 where
+  pub kind : GroupKind
+  pub tmin : ℕ
+  pub tmax : ℕ
+  pub calls : List Call
+  pub expected : Outcome
 
 abbrev pub times-over : ℕ → List Call → List Call
 times-over zero cs = []
 times-over (suc n) cs = cs ++ times-over n cs
 
-abbrev pub Root-stops : Type 0
-Root-stops = played ten one-closed 100 (Crash 1 ∷ times-over 29 tick-and-deliver) (opened ten one-closed) .table .root ≡ Down Stopped 28
+-- each call is granted
+abbrev pub granted : List Call → List ℕ
+granted calls = map (λ _. 0) calls
 
--- limits 1 and 1: a beat goes out at 1, and at 2 the tick has to wait for it
-abbrev pub Tick-waits : Type 0
-Tick-waits = answered unit one-closed 100 (Tick ∷ (Tick ∷ (Tick ∷ (Deliver 1 1 ∷ (Tick ∷ (Deliver 1 2 ∷ (Tick ∷ []))))))) (opened unit one-closed) ≡ 0 ∷ (0 ∷ (11 ∷ (0 ∷ (11 ∷ (0 ∷ (0 ∷ []))))))
+-- the pace that halves between the limits
+abbrev pub halved : ℕ → ℕ → Meaning
+halved tmin tmax = record { tmin = tmin; tmax = tmax; waits = halving tmin tmax }
 
--- each joining beat is lost: six are sent, and the party stops at 12; two records of joining and end, six of sendings, six of losses
-abbrev pub Joining-stops : Type 0
-Joining-stops =
-    (the 1 (played four one-wide 100 (Join 1 ∷ (Lose 1 3 ∷ times-over 13 (Tick ∷ (Lose 1 3 ∷ [])))) (opened four one-wide) .table) .own .standing ≡ Ended Stopped 12 Joining)
-    × (length (played four one-wide 100 (Join 1 ∷ (Lose 1 3 ∷ times-over 13 (Tick ∷ (Lose 1 3 ∷ [])))) (opened four one-wide) .log) ≡ 14)
+abbrev pub one-party : GroupKind → Plan
+one-party kind = record { kind = kind; n = 1; bounded = (lit≤ tt, lit≤ tt) }
+
+-- the ticks of the sendings in a log
+abbrev pub sendings : List Happening → List ℕ
+sendings [] = []
+sendings (h ∷ log) = cond (eqb (kind-number (h .kind)) 1) (h .tick ∷ sendings log) (sendings log)
+
+abbrev pub seen : List ℕ → Play → Outcome
+seen answers s = record {
+  answers = answers;
+  root = s .table .root;
+  party = the 1 (s .table) .own .standing;
+  sent-at = sendings (s .log);
+  records = length (s .log);
+}
+
+-- what the rules make of a case, with slots enough for the log
+abbrev pub outcome : Case → Outcome
+outcome c =
+    let m = halved (c .tmin) (c .tmax) in
+    let plan = one-party (c .kind) in
+    seen (answered m plan 100 (c .calls) (opened m plan)) (played m plan 100 (c .calls) (opened m plan))
+
+-- the party crashes at 0 and each beat of the root is delivered
+abbrev pub party-crashes : List Call
+party-crashes =
+    Crash 1 ∷ replicate 11 Tick ++ (Deliver 1 1 ∷ replicate 10 Tick) ++ (Deliver 1 1 ∷ replicate 5 Tick) ++ (Deliver 1 1 ∷ replicate 2 Tick) ++ (Deliver 1 1 ∷ Tick ∷ [])
+
+-- the root crashes at 0
+abbrev pub root-crashes : List Call
+root-crashes = Crash 0 ∷ replicate 29 Tick
+
+-- at 2 the tick has to wait for the beat and for the reply
+abbrev pub tick-waits : List Call
+tick-waits = Tick ∷ Tick ∷ Tick ∷ Deliver 1 1 ∷ Tick ∷ Deliver 1 2 ∷ Tick ∷ []
+
+-- the party joins at 0 and each joining beat is lost
+abbrev pub joining-lost : List Call
+joining-lost = Join 1 ∷ Lose 1 3 ∷ Tick ∷ times-over 5 (Tick ∷ Tick ∷ Lose 1 3 ∷ []) ++ (Tick ∷ Tick ∷ [])
+
+abbrev pub table : List Case
+table =
+    record {
+      kind = Closed;
+      tmin = 1;
+      tmax = 10;
+      calls = party-crashes;
+      expected = record {
+        answers = granted party-crashes;
+        root = Down Stopped 28;
+        party = Ended Crashed 0 In;
+        sent-at = 10 ∷ 20 ∷ 25 ∷ 27 ∷ [];
+        records = 10;
+      };
+    }
+    ∷ record {
+      kind = Closed;
+      tmin = 1;
+      tmax = 10;
+      calls = root-crashes;
+      expected = record {
+        answers = granted root-crashes;
+        root = Down Crashed 0;
+        party = Ended Stopped 28 In;
+        sent-at = [];
+        records = 2;
+      };
+    }
+    ∷ record {
+      kind = Closed;
+      tmin = 1;
+      tmax = 1;
+      calls = tick-waits;
+      expected = record {
+        answers = 0 ∷ 0 ∷ 11 ∷ 0 ∷ 11 ∷ 0 ∷ 0 ∷ [];
+        root = Running;
+        party = Live In;
+        sent-at = 1 ∷ 2 ∷ 2 ∷ [];
+        records = 5;
+      };
+    }
+    ∷ record {
+      kind = Expanding;
+      tmin = 2;
+      tmax = 4;
+      calls = joining-lost;
+      expected = record {
+        answers = granted joining-lost;
+        root = Running;
+        party = Ended Stopped 12 Joining;
+        sent-at = 0 ∷ 2 ∷ 4 ∷ 6 ∷ 8 ∷ 10 ∷ [];
+        records = 14;
+      };
+    }
+    ∷ []
+
+abbrev pub Worked-runs-stand : Type 0
+Worked-runs-stand = map outcome table ≡ map (λ (c : Case). c .expected) table

@@ -1,7 +1,7 @@
--- The laws of runs. Assumes nothing: these are statements.
-use Prim.Native.Nat.{ℕ, _+_, _-_, _≤_, _<_}
+-- How the parties of a run end: together, and for cause.
+use Prim.Native.Nat.{ℕ, _+_, _≤_, _<_}
 use mathlib.Core.Path.{_≡_}
-use mathlib.Core.Bool.{Bool, true, false}
+use mathlib.Core.Bool.{true}
 use mathlib.Core.List.{List}
 use Rattle.protocol.specs.declared.party.Party.{Party}
 use Rattle.protocol.specs.declared.party.Stage.{Stage}
@@ -25,6 +25,7 @@ On-roll p = p .note .roll ≡ On
 abbrev pub Ended-at : Party → ℕ → Type 0
 Ended-at p e = (how : Ending) × (g : Stage) × (p .own .standing ≡ Ended how e g)
 
+-- the root ended at tick e
 abbrev pub Root-ended-at : Play → ℕ → Type 0
 Root-ended-at s e = (how : Ending) × (s .table .root ≡ Down how e)
 
@@ -45,10 +46,12 @@ pub record Stops-for-cause (plan : Plan) (s : Play) : Type 0 where
   pub stops-for-cause :
       (i e : ℕ) → 1 ≤ i → i ≤ plan .n → the i (s .table) .own .standing ≡ Ended Stopped e In → (r : ℕ) × Root-ended-at s r × (r ≤ e)
 
+-- neither the root nor a party has stopped
 pub record Nobody-stopped (plan : Plan) (s : Play) : Type 0 where
   pub root-not : (e : ℕ) → s .table .root ≡ Down Stopped e → ⊥
   pub party-not : (i e : ℕ) (g : Stage) → 1 ≤ i → i ≤ plan .n → the i (s .table) .own .standing ≡ Ended Stopped e g → ⊥
 
+-- the four laws of the end; the last wants that each loss and crash was refused
 pub record End-together-for-cause (m : Meaning) (plan : Plan) (calls : List Call) (answers : List ℕ) (s : Play) : Type 0 where
   pub root-follows : Root-follows m plan s
   pub parties-follow : Parties-follow m plan s

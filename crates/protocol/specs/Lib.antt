@@ -8,6 +8,7 @@ pub mod Group
 pub mod Runs
 pub mod Laws
 pub mod Beats
+pub mod Order
 pub mod Rehearsals
 pub mod Kept
 pub mod Cases

@@ -1,12 +1,11 @@
--- Calls, the questions before each, and runs of calls. Assumes nothing.
+-- The questions before each call, and runs: calls made one after the other.
 use Prim.Native.Nat.{ℕ, zero, suc, _+_, _*_}
-use mathlib.Core.Bool.{Bool, true, false, cond, not, _&&_, _||_}
+use mathlib.Core.Bool.{Bool, true, false, not, _&&_}
 use mathlib.Core.List.{List, [], _∷_}
 use lib.Dec.{ltb, leb, eqb}
 use lib.ListN.{length}
 use Rattle.std.specs.declared.option.Option.{Option}
 use Rattle.std.specs.declared.option.Option.the-variants.{Some, None}
-use Rattle.protocol.specs.declared.party.Party.{Party}
 use Rattle.protocol.specs.declared.party.Stage.{Stage}
 use Rattle.protocol.specs.declared.party.Stage.the-variants.{Joining, In, Leaving}
 use Rattle.protocol.specs.declared.party.Standing.{Standing}
@@ -20,7 +19,7 @@ use Rattle.protocol.specs.declared.call.Call.the-variants.{Tick, Deliver, Lose
 use Rattle.slots.specs.Slots.{last-time}
 use Rattle.pace.specs.Meaning.{Meaning}
 use Rattle.protocol.specs.Party.{live, due, on-leg}
-use Rattle.protocol.specs.Group.{Play, the, any, runs, delivered, loses, crashed, joins, leaves, ticked, opened}
+use Rattle.protocol.specs.Group.{Play, the, any, runs, delivered, loses, crashed, joins, leaves, ticked}
 
 -- a question: its answer, its number, and what the later questions come to; 0 where each has a yes
 abbrev pub asks : Bool → ℕ → ℕ → ℕ
@@ -31,6 +30,7 @@ abbrev pub is-there : {A : Type 0} → Option A → Bool
 is-there None = false
 is-there (Some x) = true
 
+-- the time of a record, by which a list finds it
 abbrev pub tick-of : Happening → ℕ
 tick-of h = h .tick
 
@@ -47,6 +47,7 @@ abbrev pub log-asks : ℕ → ℕ → Play → ℕ
 log-asks slots room s =
     asks (leb (length (s .log) + slots) room) 12 (asks (is-own-log s) 13 0)
 
+-- 1 to n
 abbrev pub is-party : ℕ → ℕ → Bool
 is-party n i = ltb 0 i && leb i n
 
@@ -75,6 +76,7 @@ is-in Outside = false
 is-in (Live g) = is-in-stage g
 is-in (Ended how at g) = false
 
+-- the root (party 0) runs, or the party is joining, in or leaving
 abbrev pub can-crash : ℕ → Play → Bool
 can-crash zero s = runs (s .table .root)
 can-crash (suc i) s = live (the (suc i) (s .table) .own .standing)
@@ -101,10 +103,12 @@ done m plan (Crash i) s = crashed i s
 done m plan (Join i) s = joins m i s
 done m plan (Leave i) s = leaves i s
 
+-- a refused call changes nothing
 abbrev pub unless : ℕ → Play → Play → Play
 unless zero s t = t
 unless (suc k) s t = s
 
+-- the group and its log after a call
 abbrev pub perform : Meaning → Plan → ℕ → Call → Play → Play
 perform m plan room call s = unless (number plan room call s) s (done m plan call s)
 
@@ -118,6 +122,7 @@ abbrev pub answered : Meaning → Plan → ℕ → List Call → Play → List �
 answered m plan room [] s = []
 answered m plan room (call ∷ calls) s = number plan room call s ∷ answered m plan room calls (perform m plan room call s)
 
+-- a loss or a crash
 abbrev pub harms : Call → Bool
 harms Tick = false
 harms (Deliver i leg) = false
@@ -126,6 +131,7 @@ harms (Crash i) = true
 harms (Join i) = false
 harms (Leave i) = false
 
+-- the call, so answered, was no loss and no crash
 abbrev pub spares : Call → ℕ → Bool
 spares call k = not (harms call && eqb k 0)
 

@@ -1,3 +1,6 @@
+// One party of a group, as itself and as the root notes it.
+
+// How far a party takes part.
 #[derive(Clone, Copy)]
 pub enum Stage {
     Joining,
@@ -5,6 +8,7 @@ pub enum Stage {
     Leaving,
 }
 
+// How a party or the root has ended; only a leaving party ends as left.
 #[derive(Clone, Copy)]
 pub enum Ending {
     Crashed,
@@ -20,6 +24,7 @@ pub enum Standing {
     Ended(Ending, u32, Stage),
 }
 
+// Whether the root sends to the party: only while it is on the roll. A struck party is struck for good.
 #[derive(Clone, Copy)]
 pub enum Roll {
     Off,
@@ -27,10 +32,14 @@ pub enum Roll {
     Struck,
 }
 
+// A beat on a leg.
 #[derive(Clone, Copy)]
 pub struct Beat {
+    // The last tick at which it may be delivered or lost.
     pub last: u32,
+    // It takes leave of the root.
     pub parting: bool,
+    // The place of its sending in the log.
     pub place: usize,
 }
 
@@ -38,7 +47,9 @@ pub struct Beat {
 #[derive(Clone, Copy)]
 pub struct Note {
     pub roll: Roll,
+    // Heard in the present round.
     pub heard: bool,
+    // Rounds in a row in which it was not heard.
     pub misses: u32,
 }
 
@@ -46,13 +57,18 @@ pub struct Note {
 #[derive(Clone, Copy)]
 pub struct Own {
     pub standing: Standing,
+    // The tick when it last heard the root, or joined.
     pub since: u32,
 }
 
+// The beats under way, one at most on each leg.
 #[derive(Clone, Copy)]
 pub struct Legs {
+    // Leg 1: out from the root.
     pub out: Option<Beat>,
+    // Leg 2: the reply.
     pub reply: Option<Beat>,
+    // Leg 3: the joining beats.
     pub entry: Option<Beat>,
 }
 

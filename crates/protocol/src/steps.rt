@@ -1,13 +1,26 @@
+// The steps of one party, each in place: the calls of a group are made of them.
 ghost use mathlib.Core.Path.{_≡_};
-ghost use Prim.Native.Nat.{ℕ, _+_, _^_, _<_, _≤_};
-ghost use Rattle.protocol.specs.Party.{live, listed, hears-as, answers, heeds, missed, crashes, sends, due, due-on, lost, times, on-leg, off-leg, off-out, arrives, joined, left, fresh, heard-stage, parts};
-ghost use Rattle.protocol.specs.Runs.{is-outside, is-in};
+ghost use Prim.Native.Nat.{_<_};
+ghost use Rattle.protocol.specs.Party.{beat, live, listed, hears-as, answers, missed, crashes, sends, due, due-on, lost, times, on-leg, off-leg, arrives, joined};
 use crate::party::*;
 use crate::table::Root;
 use pace::limits::Limits;
 
+impl Beat {
+    fn new(last: u32, parting: bool, place: usize) -> Beat
+        ensures { λ r. ⌜ r ≡ beat last parting place ⌝ }
+    {
+        Beat {
+            last,
+            parting,
+            place,
+        }
+    }
+}
+
 impl Party {
-    // A beat of the root arrives at the party; answers whether it replies.
+    // A beat of the root arrives at the party, which replies to it while it lives; answers whether it does.
+    // The reply keeps the beat's last tick, so that a round trip fits into one trip time.
     pub fn hear(&mut self, clock: u32, beat: Beat, place: usize) -> bool
         ensures answer { λ r. ⌜ r ≡ live (now (self .entry) .own .standing) ⌝ }
         ensures after { λ _. ⌜ now (self .exit) ≡ hears-as (now (self .entry) .own .standing) clock place (beat .last) (now (self .entry)) ⌝ }
@@ -18,27 +31,19 @@ impl Party {
                     standing: Standing::Live(Stage::In),
                     since: clock,
                 };
-                self.legs.reply = Some(Beat {
-                    last,
-                    parting: false,
-                    place,
-                });
+                self.legs.reply = Some(Beat::new(last, false, place));
                 true
             }
             (Standing::Live(Stage::Leaving), Beat { last, .. }) => {
                 self.own.since = clock;
-                self.legs.reply = Some(Beat {
-                    last,
-                    parting: true,
-                    place,
-                });
+                self.legs.reply = Some(Beat::new(last, true, place));
                 true
             }
             (Standing::Outside | Standing::Ended(..), _) => false,
         }
     }
 
-    // A beat of the party arrives at a running root.
+    // A beat of the party arrives at a running root. Struck comes first: a late beat never enrols such a party again.
     pub fn answer(&mut self, parting: bool)
         ensures { λ _. ⌜ now (self .exit) ≡ answers parting (now (self .entry)) ⌝ }
     {
@@ -64,7 +69,7 @@ impl Party {
                 self.own.standing = Standing::Ended(Ending::Crashed, clock, stage);
                 true
             }
-            Standing::Outside | Standing::Ended(..) => false,
+            Standing::Ended(..) | Standing::Outside => false,
         }
     }
 
@@ -81,18 +86,14 @@ impl Party {
         }
     }
 
-    // The root's beat goes out, where the party is on the roll; answers whether it did.
+    // The root's beat goes out, where the party is on the roll; answers whether it did. A new round begins unheard.
     pub fn send(&mut self, last: u32, place: usize) -> bool
         ensures answer { λ r. ⌜ r ≡ listed (now (self .entry) .note .roll) ⌝ }
         ensures after { λ _. ⌜ now (self .exit) ≡ sends last place (now (self .entry)) ⌝ }
     {
         match self.note.roll {
             Roll::On => {
-                self.legs.out = Some(Beat {
-                    last,
-                    parting: false,
-                    place,
-                });
+                self.legs.out = Some(Beat::new(last, false, place));
                 self.note.heard = false;
                 true
             }
@@ -100,6 +101,7 @@ impl Party {
         }
     }
 
+    // On the roll, and silent for all the rounds of the pace.
     pub fn is_lost(&self, rounds: u32) -> bool
         ensures { λ r. ⌜ r ≡ lost rounds (now (self .entry)) ⌝ }
     {
@@ -109,7 +111,7 @@ impl Party {
         }
     }
 
-    // The party's timer. `last` is the last tick of a joining beat that goes out.
+    // The party's timer. Patience comes first: a party that ends sends nothing. `last` is the last tick of a joining beat that goes out.
     pub fn time(&mut self, clock: u32, patience: u32, limits: Limits, last: u32, place: usize)
         ensures { λ _. ⌜ now (self .exit) ≡ times clock patience (limits .tmin) last place (now (self .entry)) ⌝ }
     {
@@ -123,16 +125,13 @@ impl Party {
                 self.own.standing = Standing::Ended(how, clock, stage);
             }
             Standing::Live(Stage::Joining) if silent > 0 && silent % limits.tmin() == 0 => {
-                self.legs.entry = Some(Beat {
-                    last,
-                    parting: false,
-                    place,
-                });
+                self.legs.entry = Some(Beat::new(last, false, place));
             }
             _ => {}
         }
     }
 
+    // Joining, in or leaving.
     pub fn is_live(&self) -> bool
         ensures { λ r. ⌜ r ≡ live (now (self .entry) .own .standing) ⌝ }
     {
@@ -142,6 +141,7 @@ impl Party {
         }
     }
 
+    // The beat on a leg, by the leg's number.
     pub fn on_leg(&self, leg: u8) -> Option<Beat>
         ensures { λ r. ⌜ r ≡ on-leg leg (now (self .entry)) ⌝ }
     {
@@ -153,6 +153,7 @@ impl Party {
         }
     }
 
+    // Any number but 1 and 2 means leg 3; calls ask for the leg first.
     pub fn take_off(&mut self, leg: u8)
         ensures { λ _. ⌜ now (self .exit) ≡ off-leg leg (now (self .entry)) ⌝ }
     {
@@ -163,7 +164,7 @@ impl Party {
         }
     }
 
-    // The beat arrives from its leg.
+    // The beat arrives from its leg: at the party from leg 1, at the root from the others. A root that has ended does nothing more.
     pub fn arrive(&mut self, clock: u32, root: Root, leg: u8, beat: Beat, place: usize)
         ensures { λ _. ⌜ now (self .exit) ≡ arrives clock root leg beat place (now (self .entry)) ⌝ }
     {
@@ -183,13 +184,10 @@ impl Party {
             standing: Standing::Live(Stage::Joining),
             since: clock,
         };
-        self.legs.entry = Some(Beat {
-            last,
-            parting: false,
-            place,
-        });
+        self.legs.entry = Some(Beat::new(last, false, place));
     }
 
+    // A beat on a leg has come to its last tick.
     pub fn is_due(&self, clock: u32) -> bool
         ensures { λ r. ⌜ r ≡ due clock (now (self .entry)) ⌝ }
     {

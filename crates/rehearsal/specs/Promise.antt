@@ -15,7 +15,8 @@ use Rattle.protocol.specs.declared.call.Step.{Step}
 use Rattle.protocol.specs.Group.{Play, opened}
 use Rattle.protocol.specs.Runs.{unharmed}
 use Rattle.protocol.specs.Laws.{Root-follows, Parties-follow, Stops-for-cause, Nobody-stopped}
-use Rattle.protocol.specs.Beats.{Beats-are-logged, edges, deliveries}
+use Rattle.protocol.specs.Beats.{Beats-are-logged, Sendings-settle-once, edges, deliveries}
+use Rattle.protocol.specs.Order.{Log-in-order}
 use Rattle.protocol.specs.Rehearsals.{Rehearsed, call-of, answer-of}
 use Rattle.graphml.specs.declared.answer.Exported.{Exported}
 use Rattle.graphml.specs.declared.answer.Refusal.{Refusal}
@@ -23,8 +24,7 @@ use Rattle.graphml.specs.Cut.{tags, EndsAt}
 use Rattle.graphml.specs.Body.{body}
 use Rattle.graphml.specs.Edges.{edges-among}
 use Rattle.graphml.specs.Nested.{WellNested}
-use Rattle.graphml.specs.Answer.{part}
-use Rattle.graphml.specs.Export.{export-answer, export-bytes}
+use Rattle.graphml.specs.Answer.{part, exported, written}
 
 -- the table beside the records in the first n slots
 abbrev pub played : Table → ℕ → List Happening → Play
@@ -42,16 +42,20 @@ pub record Keeps-the-rules (m : Meaning) (plan : Plan) (room : ℕ) (steps : Lis
   pub party-that-was-in-stops-no-earlier-than-the-root : Stops-for-cause plan s
   -- each loss and crash was refused: nobody has stopped
   pub nobody-stops-unharmed : unharmed (map call-of steps) (map answer-of steps) ≡ true → Nobody-stopped plan s
-  -- each beat on a leg, and each arrival, goes back to its sending
+  -- each beat on a leg, each arrival and each loss goes back to its sending
   pub beats-go-back-to-their-sendings : Beats-are-logged plan s
+  -- no sending is the source of two: each arrives or is lost once at most
+  pub no-sending-settles-twice : Sendings-settle-once plan s
+  -- the ticks of the log never fall, none is later than the clock, and the group never takes its log for another's
+  pub log-in-order : Log-in-order plan s
   -- the arrivals of the log are the deliveries not refused, in their order
   pub arrivals-are-the-deliveries : edges 0 (s .log) ≡ deliveries m plan room (map call-of steps) (opened m plan)
 
 -- of the file in an output that was out and is out′ then
 pub record Shows-the-run (m : Meaning) (plan : Plan) (room : ℕ) (steps : List Step) (s : Play) (out out′ : List ℕ) (answer : Result Exported Refusal) : Type 0 where
-  -- the output holds the defined file, and after it what it held; the answer tells of it
-  pub answer-as-defined : answer ≡ export-answer s (plan .n) (length out)
-  pub bytes-as-defined : out′ ≡ export-bytes s (plan .n) out
+  -- an output of 275 bytes or more holds the defined file, and after it what it held; the answer tells of it
+  pub answer-as-defined : answer ≡ exported (s .log) (plan .n) (length out)
+  pub bytes-as-defined : out′ ≡ written (s .log) (plan .n) out
   -- each opened element is closed, inner before outer
   pub closed-inner-before-outer : made answer (λ x. WellNested (take (x .bytes) out′))
   -- a cut file has the first elements of all, and the next did not fit

@@ -1,7 +1,5 @@
 // Making and reading a plan.
 ghost use mathlib.Core.Path.{_≡_};
-ghost use mathlib.Core.Bool.{cond, _&&_};
-ghost use lib.Dec.{leb};
 ghost use Rattle.protocol.specs.Plans.{Planned};
 use crate::kind::GroupKind;
 use crate::plan::Plan;

@@ -14,7 +14,7 @@ use Rattle.protocol.specs.Answers.{told}
 use Rattle.protocol.specs.Group.{Play, opened}
 use Rattle.protocol.specs.Runs.{number, perform}
 use Rattle.protocol.specs.Rehearsals.{Rehearsed, call-of}
-use Rattle.protocol.proofs.Rehearsal.{map-set, more, ends, beats}
+use Rattle.protocol.proofs.Rehearsal.{map-set, more, ends, beats, settled, ordered}
 use Rattle.group.specs.Views.{play}
 use Rattle.rehearsal.specs.Promise.{Keeps-the-rules, Promised}
 use Rattle.rehearsal.proofs.Shown.{shows}
@@ -60,8 +60,10 @@ returns g c =
     let all : Rehearsed m plan (length slots) (opened m plan) xs s =
     subst₃ (λ p plan ys. Rehearsed (means p) plan (length slots) (opened (means p) plan) ys s) (o .pace) (o .plan) (take-all (c .loop-i .i) xs (omega arith))
     (subst (λ (ys : List Happening). Rehearsed (means (c .open-group .result .pace)) (c .open-group .result .plan) (length ys) (opened (means (c .open-group .result .pace)) (c .open-group .result .plan)) (take (c .loop-i .i) xs) s) lent (inv .1)) in
-    let b = beats m plan (length slots) (g .P·Pace·met .lawful (c .args .pace)) xs s all in
-    let e = ends m plan (length slots) (g .P·Pace·met .lawful (c .args .pace)) xs _ s refl all in
+    let law = g .P·Pace·met .lawful (c .args .pace) in
+    let order = ordered m plan (length slots) law xs s all in
+    let b = beats m plan (length slots) law xs s all in
+    let e = ends m plan (length slots) law xs _ s refl all in
     let run : Keeps-the-rules m plan (length slots) xs s = record {
       by-the-rules = all;
       root-ends-within-D-of-a-party-on-the-roll = e .root-follows;
@@ -69,13 +71,15 @@ returns g c =
       party-that-was-in-stops-no-earlier-than-the-root = e .stops-for-cause;
       nobody-stops-unharmed = e .none-stops-unharmed;
       beats-go-back-to-their-sendings = b .logged;
+      no-sending-settles-twice = settled m plan (length slots) law xs s all;
+      log-in-order = order;
       arrivals-are-the-deliveries = b .edges-are;
     } in
     let x = c .export-exported .ensures in
     let promise : Promised m plan xs (c .loop-i .group .table) (l′ .len) slots (now (l′ .slots)) (c .args .out .now) (c .export-exported .last .out) (c .export-exported .result) = record {
       run = run;
       later-slots-kept = inv .4 .later ∙ ap (λ (ys : List Happening). drop (l′ .len) ys) lent;
-      file = shows m plan (length slots) xs s _ _ _ (c .loop-i .group .plan) (inv .3 ∙ o .plan) (b .edges-are)
+      file = shows m plan (length slots) xs s _ _ _ (c .loop-i .group .plan) (inv .3 ∙ o .plan) (b .edges-are) order
           (x .answer) (x .bytes) (x .nested) (x .cut) (x .edges);
     } in
     let tie = inv .4 .lent ∙ c .new-log .ensures .lent in
