@@ -482,7 +482,11 @@ def runfile(data, output_bytes=OUTPUT_BYTES):
         group = open_group(start)
     except ReaderFault as fault:
         return b"refused byte %d number %d\n" % (fault.byte, fault.number)
-    fault = play(group, orders)
+    return printed(group, play(group, orders), output_bytes)
+
+
+def printed(group, fault, output_bytes=OUTPUT_BYTES):
+    """The exported file of a group that was played, and the notices."""
     file = export(group.n, group.log, output_bytes)
     notices = b"<!-- cut -->\n" if file.cut else b""
     if fault is not None:

@@ -8,14 +8,11 @@ use Rattle.protocol.specs.declared.call.Step.{Step}
 use Rattle.pace.specs.Meaning.{Meaning, Lawful}
 use Rattle.protocol.specs.Group.{Play, opened}
 use Rattle.protocol.specs.Answers.{told}
-use Rattle.protocol.specs.Runs.{number, perform, played, answered, unharmed}
+use Rattle.protocol.specs.Runs.{number, perform, played, answered}
 use Rattle.protocol.specs.Laws.{End-together-for-cause}
 use Rattle.protocol.specs.Beats.{Sendings-settle-once}
 use Rattle.protocol.specs.Order.{Log-in-order}
 use Rattle.protocol.specs.Rehearsals.{Rehearsed, call-of, answer-of, End-together, Beats-shown}
-use mathlib.Core.Bool.{Bool, true}
-use Rattle.protocol.specs.Kept.{Whole, terms}
-use Rattle.protocol.proofs.Whole.{plays, opens}
 use Rattle.protocol.proofs.Shown.{shows, settle-once, in-order}
 use Rattle.protocol.proofs.Ends.{laws}
 

@@ -3,7 +3,7 @@ use Prim.Native.Nat.{ℕ, zero, suc}
 use mathlib.Core.Path.{_≡_}
 use mathlib.Core.Bool.{cond}
 use mathlib.Core.List.{List, [], _∷_, _++_, map}
-use lib.Dec.{lit≤}
+use lib.Dec.{eqb, lit≤}
 use lib.ListN.{length, replicate}
 use Rattle.protocol.specs.declared.party.Stage.the-variants.{Joining, In}
 use Rattle.protocol.specs.declared.party.Ending.the-variants.{Stopped, Crashed}
@@ -22,7 +22,6 @@ use Rattle.pace.specs.Waits.{halving}
 use Rattle.protocol.specs.Words.{kind-number}
 use Rattle.protocol.specs.Group.{Play, the, opened}
 use Rattle.protocol.specs.Runs.{played, answered}
-use lib.Dec.{eqb}
 
 -- what comes of a run: the answers, how the root and party 1 end, the ticks of the sendings, and the number of records
 pub record Outcome : Type 0 where
@@ -40,6 +39,7 @@ pub record Case : Type 0 where
   pub calls : List Call
   pub expected : Outcome
 
+-- the calls, so many times
 abbrev pub times-over : ℕ → List Call → List Call
 times-over zero cs = []
 times-over (suc n) cs = cs ++ times-over n cs
@@ -52,6 +52,7 @@ granted calls = map (λ _. 0) calls
 abbrev pub halved : ℕ → ℕ → Meaning
 halved tmin tmax = record { tmin = tmin; tmax = tmax; waits = halving tmin tmax }
 
+-- a plan of one party beside the root
 abbrev pub one-party : GroupKind → Plan
 one-party kind = record { kind = kind; n = 1; bounded = (lit≤ tt, lit≤ tt) }
 
@@ -60,6 +61,7 @@ abbrev pub sendings : List Happening → List ℕ
 sendings [] = []
 sendings (h ∷ log) = cond (eqb (kind-number (h .kind)) 1) (h .tick ∷ sendings log) (sendings log)
 
+-- what can be seen of a run that got such answers
 abbrev pub seen : List ℕ → Play → Outcome
 seen answers s = record {
   answers = answers;
@@ -93,61 +95,24 @@ tick-waits = Tick ∷ Tick ∷ Tick ∷ Deliver 1 1 ∷ Tick ∷ Deliver 1 2 ∷
 abbrev pub joining-lost : List Call
 joining-lost = Join 1 ∷ Lose 1 3 ∷ Tick ∷ times-over 5 (Tick ∷ Tick ∷ Lose 1 3 ∷ []) ++ (Tick ∷ Tick ∷ [])
 
+abbrev pub row : GroupKind → ℕ → ℕ → List Call → Outcome → Case
+row kind tmin tmax calls expected = record { kind = kind; tmin = tmin; tmax = tmax; calls = calls; expected = expected }
+
+abbrev pub ends : List ℕ → Root → Standing → List ℕ → ℕ → Outcome
+ends answers root party sent-at records = record { answers = answers; root = root; party = party; sent-at = sent-at; records = records }
+
 abbrev pub table : List Case
 table =
-    record {
-      kind = Closed;
-      tmin = 1;
-      tmax = 10;
-      calls = party-crashes;
-      expected = record {
-        answers = granted party-crashes;
-        root = Down Stopped 28;
-        party = Ended Crashed 0 In;
-        sent-at = 10 ∷ 20 ∷ 25 ∷ 27 ∷ [];
-        records = 10;
-      };
-    }
-    ∷ record {
-      kind = Closed;
-      tmin = 1;
-      tmax = 10;
-      calls = root-crashes;
-      expected = record {
-        answers = granted root-crashes;
-        root = Down Crashed 0;
-        party = Ended Stopped 28 In;
-        sent-at = [];
-        records = 2;
-      };
-    }
-    ∷ record {
-      kind = Closed;
-      tmin = 1;
-      tmax = 1;
-      calls = tick-waits;
-      expected = record {
-        answers = 0 ∷ 0 ∷ 11 ∷ 0 ∷ 11 ∷ 0 ∷ 0 ∷ [];
-        root = Running;
-        party = Live In;
-        sent-at = 1 ∷ 2 ∷ 2 ∷ [];
-        records = 5;
-      };
-    }
-    ∷ record {
-      kind = Expanding;
-      tmin = 2;
-      tmax = 4;
-      calls = joining-lost;
-      expected = record {
-        answers = granted joining-lost;
-        root = Running;
-        party = Ended Stopped 12 Joining;
-        sent-at = 0 ∷ 2 ∷ 4 ∷ 6 ∷ 8 ∷ 10 ∷ [];
-        records = 14;
-      };
-    }
+    -- the root stops at 28, one patience after the party's crash
+    row Closed 1 10 party-crashes (ends (granted party-crashes) (Down Stopped 28) (Ended Crashed 0 In) (10 ∷ 20 ∷ 25 ∷ 27 ∷ []) 10)
+    -- the party stops at 28, one patience after the root's crash
+    ∷ row Closed 1 10 root-crashes (ends (granted root-crashes) (Down Crashed 0) (Ended Stopped 28 In) [] 2)
+    -- a beat is sent at 1; the tick at 2 is refused by 11 until beat and reply have come, and nobody stops
+    ∷ row Closed 1 1 tick-waits (ends (0 ∷ 0 ∷ 11 ∷ 0 ∷ 11 ∷ 0 ∷ 0 ∷ []) Running (Live In) (1 ∷ 2 ∷ 2 ∷ []) 5)
+    -- six joining beats are sent, and the party stops at 12
+    ∷ row Expanding 2 4 joining-lost (ends (granted joining-lost) Running (Ended Stopped 12 Joining) (0 ∷ 2 ∷ 4 ∷ 6 ∷ 8 ∷ 10 ∷ []) 14)
     ∷ []
 
+-- each case comes out as expected
 abbrev pub Worked-runs-stand : Type 0
 Worked-runs-stand = map outcome table ≡ map (λ (c : Case). c .expected) table

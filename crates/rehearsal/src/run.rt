@@ -14,6 +14,7 @@ use protocol::plan::Plan;
 use slots::SlotList;
 
 // What a run came to: the group, how many of the slots hold its log, and what the export answered.
+#[derive(Drop)]
 pub struct Rehearsal<P: Pace> {
     pub group: Group<P>,
     pub records: usize,
@@ -28,6 +29,8 @@ pub fn rehearse<P: Pace>(
     slots: &mut [Happening],
     out: &mut [u8],
 ) -> Rehearsal<P>
+    ensures pace { λ r. ⌜ r .group .pace ≡ pace ⌝ }
+    ensures plan { λ r. ⌜ r .group .plan ≡ plan ⌝ }
     ensures calls { λ _. ⌜ map call-of (now (steps .exit)) ≡ map call-of (now (steps .entry)) ⌝ }
     ensures promise { λ r. ⌜ Promised (means pace) plan (now (steps .exit)) (r .group .table) (r .records) (now (slots .entry)) (now (slots .exit)) (now (out .entry)) (now (out .exit)) (r .exported) ⌝ }
 {

@@ -16,7 +16,7 @@ use slots::SlotList;
 use std::io;
 use std::io::Write;
 
-const OUTPUT: usize = 65536;
+const OUTPUT_BYTES: usize = 65_536;
 
 fn ending_word(ending: Ending) -> &'static str {
     match ending {
@@ -138,7 +138,7 @@ pub fn tell_file<P: Pace>(
     group: &Group<P>,
     log: &SlotList<'_, Happening>,
 ) -> io::Result<()> {
-    let mut out = vec![in rt.alloc(); 0u8; OUTPUT]?;
+    let mut out = vec![in rt.alloc(); 0u8; OUTPUT_BYTES]?;
     println!(rt)?;
     match export(group, log, out.as_mut_slice()) {
         Ok(exported) => {

@@ -6,6 +6,7 @@ mod tell;
 mod walk;
 
 use crate::task::TASK;
+use crate::tell::refused_at_byte;
 use crate::walk::walk_capped;
 use orders::load::load;
 use orders::order::Order;
@@ -17,48 +18,24 @@ use pace::halving::HalvingPace;
 use pace::limits::Limits;
 use pace::two_phase::TwoPhase;
 use pace::two_phase::TwoPhasePace;
-use protocol::plan::Plan;
 use slots::SlotList;
 use std::io;
 use std::io::Read;
 
-const INPUT: usize = 65536;
+// More of the input is not read.
+const INPUT_BYTES: u64 = 65_536;
 
-const ORDERS: usize = 8192;
+const ORDER_SLOTS: usize = 8_192;
 
-// Fills the buffer from standard input, and says how far.
-fn read_input(rt: &LibcRuntime, buffer: &mut [u8]) -> io::Result<usize> {
-    let mut input = rt.stdin();
-    let mut filled = 0;
-    for _ in 0..INPUT {
-        if filled >= buffer.len() {
-            break;
-        }
-        let count = input.read(&mut buffer[filled..])?;
-        if count == 0 {
-            break;
-        }
-        filled += count;
-    }
-    Ok(filled)
-}
-
-fn refused_at_byte(rt: &LibcRuntime, byte: usize, number: u8) -> io::Result<()> {
-    println!(rt, "refused byte {byte} number {number}")
-}
-
-// Puts the questions of the set-up, and plays.
+// Plays at the pace that the schedule asks for.
 fn set_up(rt: &LibcRuntime, start: Start, orders: &[Order]) -> io::Result<()> {
     let limits = match Limits::new(start.tmin, start.tmax) {
         Ok(limits) => limits,
         Err(refusal) => return refused_at_byte(rt, 0, refusal.number()),
     };
-    let Ok(plan) = Plan::new(start.kind, start.parties) else {
-        return refused_at_byte(rt, 0, 5);
-    };
     match start.pace {
-        PaceKind::Halving => walk_capped(rt, Halving::new(limits), start, plan, orders),
-        PaceKind::TwoPhase => walk_capped(rt, TwoPhase::new(limits), start, plan, orders),
+        PaceKind::Halving => walk_capped(rt, Halving::new(limits), start, orders),
+        PaceKind::TwoPhase => walk_capped(rt, TwoPhase::new(limits), start, orders),
     }
 }
 
@@ -70,7 +47,7 @@ fn play(rt: &LibcRuntime, bytes: &[u8]) -> io::Result<()> {
         leg: 0,
         tick: 0,
     };
-    let mut slots = vec![in rt.alloc(); blank; ORDERS]?;
+    let mut slots = vec![in rt.alloc(); blank; ORDER_SLOTS]?;
     let mut list = SlotList::new(slots.as_mut_slice());
     match load(bytes, &mut list) {
         Ok(start) => set_up(rt, start, list.as_slice()),
@@ -79,10 +56,11 @@ fn play(rt: &LibcRuntime, bytes: &[u8]) -> io::Result<()> {
 }
 
 fn main(rt: LibcRuntime) -> io::Result<()> {
-    let mut buffer = vec![in rt.alloc(); 0u8; INPUT]?;
-    let filled = read_input(&rt, buffer.as_mut_slice())?;
-    match buffer.as_slice().get(0..filled) {
-        Some(given) if filled > 0 => play(&rt, given),
-        _ => play(&rt, &TASK),
+    let mut given = Vec::new(rt.alloc());
+    rt.stdin().take(INPUT_BYTES).read_to_end(&mut given)?;
+    if given.is_empty() {
+        play(&rt, &TASK)
+    } else {
+        play(&rt, given.as_slice())
     }
 }

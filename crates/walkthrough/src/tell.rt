@@ -120,3 +120,8 @@ pub fn tell_refusal(rt: &LibcRuntime, clock: u32, refusal: Refusal) -> io::Resul
     let asked = question(refusal);
     println!(rt, "tick {clock}  refused by number {number}: {asked} No.")
 }
+
+// A fault of the schedule itself, as `runfile` tells it.
+pub fn refused_at_byte(rt: &LibcRuntime, byte: usize, number: u8) -> io::Result<()> {
+    println!(rt, "refused byte {byte} number {number}")
+}

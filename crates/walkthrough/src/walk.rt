@@ -2,15 +2,16 @@
 use crate::ends::tell_ends;
 use crate::ends::tell_file;
 use crate::intro::introduce;
+use crate::tell::refused_at_byte;
 use crate::tell::tell;
 use crate::tell::tell_refusal;
 use group::Group;
 use orders::order::Order;
-use orders::order::OrderKind;
 use orders::start::Start;
 use pace::Pace;
 use pace::cap::Cap;
 use pace::cap::CapPace;
+use player::play::own_call;
 use protocol::call::Call;
 use protocol::happening::Happening;
 use protocol::happening::HappeningKind;
@@ -18,19 +19,7 @@ use protocol::plan::Plan;
 use slots::SlotList;
 use std::io;
 
-const LOG: usize = 2048;
-
-// What an order asks of the group once its tick has come.
-fn call_of(order: &Order) -> Option<Call> {
-    match order.kind {
-        OrderKind::Deliver => Some(Call::Deliver(order.party, order.leg)),
-        OrderKind::Lose => Some(Call::Lose(order.party, order.leg)),
-        OrderKind::Crash => Some(Call::Crash(order.party)),
-        OrderKind::Join => Some(Call::Join(order.party)),
-        OrderKind::Leave => Some(Call::Leave(order.party)),
-        OrderKind::Wait => None,
-    }
-}
+const LOG_SLOTS: usize = 2_048;
 
 // Makes one call and tells what it wrote; false where it was refused.
 fn step<P: Pace>(
@@ -62,7 +51,7 @@ fn obey<P: Pace>(
             return Ok(false);
         }
     }
-    match call_of(order) {
+    match own_call(*order) {
         Some(call) => step(rt, group, log, call),
         None => Ok(true),
     }
@@ -76,7 +65,7 @@ fn walk<P: Pace + Drop>(rt: &LibcRuntime, pace: P, plan: Plan, orders: &[Order])
         kind: HappeningKind::Sent,
         link: 0,
     };
-    let mut slots = vec![in heap; none; LOG]?;
+    let mut slots = vec![in heap; none; LOG_SLOTS]?;
     let mut log = SlotList::new(slots.as_mut_slice());
     let mut group = Group::open(pace, plan);
     introduce(rt, &group)?;
@@ -90,20 +79,14 @@ fn walk<P: Pace + Drop>(rt: &LibcRuntime, pace: P, plan: Plan, orders: &[Order])
     tell_file(rt, &group, &log)
 }
 
-// The pace under its cap, or the refusal of the cap.
-pub fn walk_capped<P: Pace + Drop>(
-    rt: &LibcRuntime,
-    pace: P,
-    start: Start,
-    plan: Plan,
-    orders: &[Order],
-) -> io::Result<()> {
+// The pace goes under its cap, and then the plan is made; the first refusal is told and nothing is played.
+pub fn walk_capped<P: Pace + Drop>(rt: &LibcRuntime, pace: P, start: Start, orders: &[Order]) -> io::Result<()> {
     let mut capped = Cap::new(pace);
-    match capped.set(start.cap as u32) {
-        Ok(()) => walk(rt, capped, plan, orders),
-        Err(refusal) => {
-            let number = refusal.number();
-            println!(rt, "refused byte 0 number {number}")
-        }
+    if let Err(refusal) = capped.set(start.cap as u32) {
+        return refused_at_byte(rt, 0, refusal.number());
+    }
+    match Plan::new(start.kind, start.parties) {
+        Ok(plan) => walk(rt, capped, plan, orders),
+        Err(refusal) => refused_at_byte(rt, 0, refusal.number()),
     }
 }

@@ -85,4 +85,4 @@ returns g c =
     let tie = inv .4 .lent ∙ c .new-log .ensures .lent in
     let back : (k : ℕ) (ys : List Happening) → k ≡ l′ .len → ys ≡ now (l′ .slots) → Promised m plan xs (c .loop-i .group .table) k slots ys (c .args .out .now) (c .export-exported .last .out) (c .export-exported .result) =
     λ k ys e f. subst₂ (λ (k : ℕ) (ys : List Happening). Promised m plan xs (c .loop-i .group .table) k slots ys (c .args .out .now) (c .export-exported .last .out) (c .export-exported .result)) (sym e) (sym f) promise in
-    record { calls = inv .0; promise = back _ _ n (search needs) }
+    record { pace = inv .2 ∙ o .pace; plan = inv .3 ∙ o .plan; calls = inv .0; promise = back _ _ n (search needs) }

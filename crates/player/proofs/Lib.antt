@@ -1,0 +1,9 @@
+pub mod Clock
+pub mod Making
+pub mod Turns
+pub mod Obeying
+pub mod Playing
+pub mod Running
+pub mod Lengths
+pub mod Files
+pub mod Opening

@@ -1,0 +1,5 @@
+pub mod Playing
+pub mod Notices
+pub mod Faults
+pub mod Told
+pub mod Program
