@@ -10,9 +10,13 @@ use std::io::Read;
 use std::io::Write;
 
 const INPUT_BYTES: u64 = 65_536;
+
 const ORDER_SLOTS: usize = 8_192;
+
 const LOG_SLOTS: usize = 2_048;
+
 const OUTPUT_BYTES: usize = 65_536;
+
 const LEAST: usize = 275;
 
 const NO_ORDER: Order = Order {
@@ -21,6 +25,7 @@ const NO_ORDER: Order = Order {
     leg: 0,
     tick: 0,
 };
+
 const NO_HAPPENING: Happening = Happening {
     tick: 0,
     owner: 0,
@@ -29,7 +34,15 @@ const NO_HAPPENING: Happening = Happening {
 };
 
 // Prints the size, how many bytes follow, and then what is printed at that size; answers the bytes of the file.
-fn print_at(rt: &LibcRuntime, size: usize, input: &[u8], orders: &mut [Order], log: &mut [Happening], out: &mut [u8], shown: bool) -> io::Result<usize> {
+fn print_at(
+    rt: &LibcRuntime,
+    size: usize,
+    input: &[u8],
+    orders: &mut [Order],
+    log: &mut [Happening],
+    out: &mut [u8],
+    shown: bool,
+) -> io::Result<usize> {
     let Some(room) = out.get_mut(0..size) else {
         return Ok(0);
     };
@@ -52,12 +65,28 @@ fn main(rt: LibcRuntime) -> io::Result<()> {
     let mut orders = vec![in heap; NO_ORDER; ORDER_SLOTS]?;
     let mut log = vec![in heap; NO_HAPPENING; LOG_SLOTS]?;
     let mut out = vec![in heap; 0u8; OUTPUT_BYTES]?;
-    let whole = print_at(&rt, OUTPUT_BYTES, input.as_slice(), orders.as_mut_slice(), log.as_mut_slice(), out.as_mut_slice(), false)?;
+    let whole = print_at(
+        &rt,
+        OUTPUT_BYTES,
+        input.as_slice(),
+        orders.as_mut_slice(),
+        log.as_mut_slice(),
+        out.as_mut_slice(),
+        false,
+    )?;
     if whole == 0 {
         return Ok(());
     }
     for size in LEAST..whole.saturating_add(4) {
-        print_at(&rt, size, input.as_slice(), orders.as_mut_slice(), log.as_mut_slice(), out.as_mut_slice(), true)?;
+        print_at(
+            &rt,
+            size,
+            input.as_slice(),
+            orders.as_mut_slice(),
+            log.as_mut_slice(),
+            out.as_mut_slice(),
+            true,
+        )?;
     }
     Ok(())
 }

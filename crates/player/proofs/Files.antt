@@ -1,5 +1,5 @@
 -- A file that is played, from the group's opening to the output.
-use Prim.Native.Nat.{ℕ, zero, suc, _+_, _≤_}
+use Prim.Native.Nat.{ℕ, _+_, _≤_}
 use mathlib.Core.Path.{_≡_, refl, sym, ap, _∙_, subst}
 use mathlib.Core.Bool.{Bool, true, false, cond, _&&_}
 use mathlib.Core.List.{List, [], _++_}
@@ -19,16 +19,18 @@ use Rattle.protocol.specs.declared.table.Table.{Table}
 use Rattle.protocol.specs.declared.plan.Plan.{Plan}
 use Rattle.protocol.specs.Group.{Play, opened}
 use Rattle.protocol.specs.Runs.{is-own-log}
-use Rattle.protocol.proofs.Rehearsal.{ends, beats}
+use Rattle.protocol.proofs.Rehearsal.{ends, beats, settled, ordered}
 use Rattle.group.specs.Views.{play}
 use Rattle.orders.specs.declared.order.Order.{Order}
 use Rattle.orders.specs.declared.start.Start.{Start}
 use Rattle.graphml.specs.declared.answer.Exported.{Exported}
 use Rattle.graphml.specs.declared.answer.Refusal.{Refusal}
-use Rattle.graphml.specs.Answer.{in-frame, part, over, summary}
+use Rattle.graphml.specs.declared.answer.Refusal.the-variants.{LogDiffers}
+use Rattle.graphml.specs.Answer.{in-frame, part, over, summary, written, exported}
 use Rattle.graphml.specs.Export.{export-answer, export-bytes}
 use Rattle.player.specs.Playing.{Stop, Playing, plays}
 use Rattle.player.specs.Program.{parties-no, or-else, cap-and-plan-no, run, Keeps-the-rules, Prints, Played, Set-up}
+use Rattle.player.proofs.Own.{own-log}
 use Rattle.player.proofs.Running.{plays-run}
 
 -- both questions are answered yes
@@ -69,7 +71,12 @@ module _ (m : Meaning) (sound : Lawful m) (plan : Plan) (orders : List Order) (h
         made = r .made;
         end-together = ends m plan (length hs) sound (r .steps) (opened m plan) (ran .play) refl (r .by-the-rules);
         beats-shown = beats m plan (length hs) sound (r .steps) (ran .play) (r .by-the-rules);
+        settle-once = settled m plan (length hs) sound (r .steps) (ran .play) (r .by-the-rules);
+        log-in-order = ordered m plan (length hs) sound (r .steps) (ran .play) (r .by-the-rules);
       }
+
+  owns : is-own-log (ran .play) ≡ true
+  owns = own-log plan (ran .play) (keeps .log-in-order)
 
   module _ (t t′ : Table) (l l′ : SlotList Happening) (stop : Stop) (new : t ≡ opened m plan .table) (empty : items l ≡ []) (lent : spare l ≡ hs)
       (after : play t′ l′ ≡ plays m plan (capacity l) 0 orders (play t l) .play) (stopped : stop ≡ plays m plan (capacity l) 0 orders (play t l) .stop)
@@ -91,7 +98,7 @@ module _ (m : Meaning) (sound : Lawful m) (plan : Plan) (orders : List Order) (h
         let it : items l′ ≡ ran .play .log = ap (λ (x : Play). x .log) play-is in
         whole l′ ∙ ap (λ xs. xs ++ spare l′) it
         ∙ ap (λ xs. ran .play .log ++ xs)
-          (grew .later ∙ ap (λ xs. drop (l′ .len) xs) slots-are ∙ ap (λ k. drop k hs) (sym (items-length l′) ∙ ap length it))
+        (grew .later ∙ ap (λ xs. drop (l′ .len) xs) slots-are ∙ ap (λ k. drop k hs) (sym (items-length l′) ∙ ap length it))
 
     -- what came of the playing is exported, and printed with the stop
     pub played : (hs′ : List Happening) (out out′ : List ℕ) (n : ℕ) (r : Result Exported Refusal) (bytes : ℕ) (lines : List ℕ) →
@@ -101,8 +108,10 @@ module _ (m : Meaning) (sound : Lawful m) (plan : Plan) (orders : List Order) (h
         record {
           keeps = keeps;
           log = h ∙ log-is;
-          output = w ∙ ap (λ x. export-bytes x n out) play-is ∙ ap (λ i. export-bytes (ran .play) i out) k;
+          output = w ∙ ap (λ x. export-bytes x n out) play-is ∙ ap (λ i. export-bytes (ran .play) i out) k ∙ ap (λ b. cond b (written (ran .play .log) (plan .n) out) out) owns;
           prints =
-              subst (λ x. Prints x (ran .stop) bytes lines) (a ∙ ap (λ x. export-answer x n (length out)) play-is ∙ ap (λ i. export-answer (ran .play) i (length out)) k)
+              subst (λ x. Prints x (ran .stop) bytes lines)
+              (a ∙ ap (λ x. export-answer x n (length out)) play-is ∙ ap (λ i. export-answer (ran .play) i (length out)) k
+              ∙ ap (λ b. cond b (exported (ran .play .log) (plan .n) (length out)) (Err LogDiffers)) owns)
               (subst (λ x. Prints r x bytes lines) (stopped ∙ ap (λ (x : Playing). x .stop) from-new) p);
         }

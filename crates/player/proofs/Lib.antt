@@ -7,3 +7,4 @@ pub mod Running
 pub mod Lengths
 pub mod Files
 pub mod Opening
+pub mod Own

@@ -77,11 +77,6 @@ module _ (m : Meaning) (plan : Plan) (room : ℕ) where
       let w = refused Tick (replicate (tick - (s .table .clock + 1)) Tick) s s′ k z e in
       (ap (λ n. made (replicate n Tick) s .play) f ∙ w .0, ap (λ n. made (replicate n Tick) s .number) f ∙ w .1)
 
-  -- no tick is missing
-  pub ticks-done : (tick : ℕ) (s : Play) → tick - s .table .clock ≡ 0 →
-      (made (replicate (tick - s .table .clock) Tick) s .play ≡ s) × (made (replicate (tick - s .table .clock) Tick) s .number ≡ 0)
-  ticks-done tick s f = (ap (λ n. made (replicate n Tick) s .play) f, ap (λ n. made (replicate n Tick) s .number) f)
-
   then-on : (k : ℕ) (call : Call) (s : Play) (a b : Making) (ys : List Call) → goes-on k call s a .number ≡ 0 →
       (a .number ≡ 0 → Same b (made ys (a .play))) → Same (goes-on k call s b) (made ys (goes-on k call s a .play))
   then-on zero call s a b ys h f = let r = f h in record { play = r .play; number = r .number }

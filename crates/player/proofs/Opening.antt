@@ -4,7 +4,6 @@ use mathlib.Core.Path.{_≡_, refl, sym, ap, _∙_, subst, subst₂}
 use mathlib.Core.List.{List, [], _++_}
 use denote.Ref.{now}
 use Rattle.std.specs.declared.result.Result.{Result}
-use Rattle.std.specs.declared.result.Result.the-variants.{Ok, Err}
 use Rattle.pace.specs.declared.limits.Limits.{Limits}
 use Rattle.pace.specs.declared.refusal.Refusal.{Refusal}
 use Rattle.pace.specs.declared.refusal.Refusal.the-variants.{BadLimits, BadCount, BadFirst, BadWait}

@@ -1,6 +1,6 @@
 -- Orders played one after another, up to the first refusal.
-use Prim.Native.Nat.{ℕ, zero, suc, _+_, _<_}
-use mathlib.Core.Path.{_≡_, refl, sym, ap, _∙_}
+use Prim.Native.Nat.{ℕ, suc, _+_, _<_}
+use mathlib.Core.Path.{_≡_, sym, ap, _∙_}
 use mathlib.Core.List.{List, [], _∷_}
 use lib.ListN.{length, getD, drop}
 use Rattle.std.proofs.shelf.Lists.{drop-more}
@@ -14,9 +14,6 @@ use Rattle.player.specs.Playing.{Making, Playing, calls-for, makes, goes-on-fr
 pub record Alike (a b : Playing) : Type 0 where
   pub play : a .play ≡ b .play
   pub stop : a .stop ≡ b .stop
-
-pub alike-refl : (a : Playing) → Alike a a
-alike-refl a = record { play = refl; stop = refl }
 
 module _ (m : Meaning) (plan : Plan) (room : ℕ) where
   abbrev made : Order → Play → Making

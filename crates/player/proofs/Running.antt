@@ -9,6 +9,10 @@ use Rattle.std.proofs.shelf.Lists.{map-append}
 use Rattle.std.specs.declared.result.Result.{Result}
 use Rattle.std.specs.declared.result.Result.the-variants.{Ok, Err}
 use Rattle.pace.specs.Meaning.{Meaning}
+use Rattle.slots.specs.declared.SlotList.{SlotList}
+use Rattle.slots.specs.Slots.{capacity, Extends}
+use Rattle.protocol.specs.declared.happening.Happening.{Happening}
+use Rattle.protocol.specs.declared.table.Table.{Table}
 use Rattle.protocol.specs.declared.plan.Plan.{Plan}
 use Rattle.protocol.specs.declared.call.Call.{Call}
 use Rattle.protocol.specs.declared.call.Call.the-variants.{Tick, Deliver, Lose, Crash, Join, Leave}
@@ -20,8 +24,9 @@ use Rattle.protocol.specs.Party.{due, on-leg}
 use Rattle.protocol.specs.Group.{Play, the, any}
 use Rattle.protocol.specs.Runs.{asks, is-there, is-own-log, log-asks, is-party, may-join, may-leave, is-outside, is-in, can-crash, number, perform, done, unless}
 use Rattle.protocol.specs.Rehearsals.{Rehearsed, call-of}
+use Rattle.group.specs.Views.{play}
 use Rattle.orders.specs.declared.order.Order.{Order}
-use Rattle.player.specs.Playing.{Making, Stop, Playing, calls-for, goes-on, makes, goes-on-from, plays, Run-of}
+use Rattle.player.specs.Playing.{Making, Stop, Playing, calls-for, goes-on, makes, goes-on-from, plays, Run-of, Orders-played}
 
 -- an answer that tells a number
 abbrev Tells : ℕ → Type 0
@@ -98,13 +103,14 @@ module _ (m : Meaning) (plan : Plan) (room : ℕ) where
       let x = makes m plan room cs s in
       order-run (x .number) k s x (plays m plan room (k + 1) os (x .play)) (makes-run cs s) (plays-run (k + 1) os (x .play))
 
-  -- what the playing came to, where its orders are found in a list
-  pub record Ended (os : List Order) (s s′ : Play) (stop : Stop) : Type 0 where
-    pub after : s′ ≡ plays m plan room 0 os s .play
-    pub answer : stop ≡ plays m plan room 0 os s .stop
-    pub run : Run-of m plan room (plays m plan room 0 os s .calls) s s′
-
-  pub ended : (os os′ : List Order) (s s′ : Play) (stop : Stop) → os ≡ os′ → s′ ≡ plays m plan room 0 os s .play → stop ≡ plays m plan room 0 os s .stop → Ended os′ s s′ stop
-  ended os os′ s s′ stop e after answer =
-      subst (λ xs. Ended xs s s′ stop) e
-      (record { after = after; answer = answer; run = subst (λ t. Run-of m plan room (plays m plan room 0 os s .calls) s t) (sym after) (plays-run 0 os s) })
+-- what the playing came to, where its orders are found in a list
+pub ended : (m : Meaning) (plan : Plan) (os os′ : List Order) (t t′ : Table) (l l′ : SlotList Happening) (stop : Stop) → os ≡ os′ → Extends l l′ →
+    play t′ l′ ≡ plays m plan (capacity l) 0 os (play t l) .play → stop ≡ plays m plan (capacity l) 0 os (play t l) .stop → Orders-played m plan os′ t t′ l l′ stop
+ended m plan os os′ t t′ l l′ stop e grew after answer =
+    subst (λ xs. Orders-played m plan xs t t′ l l′ stop) e
+    (record {
+      answer = answer;
+      after = after;
+      extends = grew;
+      run = subst (λ x. Run-of m plan (capacity l) (plays m plan (capacity l) 0 os (play t l) .calls) (play t l) x) (sym after) (plays-run m plan (capacity l) 0 os (play t l));
+    })

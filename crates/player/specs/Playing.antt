@@ -113,3 +113,11 @@ pub record Run-of (m : Meaning) (plan : Plan) (room : ℕ) (calls : List Call) (
   pub steps : List Step
   pub by-the-rules : Rehearsed m plan room s steps s′
   pub made : map call-of steps ≡ calls
+
+-- the orders were played, up to the first refusal: the table, the records and the stop are those that `plays` gives, and they come of a
+-- run of its calls by the rules
+pub record Orders-played (m : Meaning) (plan : Plan) (orders : List Order) (t t′ : Table) (l l′ : SlotList Happening) (stop : Stop) : Type 0 where
+  pub answer : stop ≡ plays m plan (capacity l) 0 orders (play t l) .stop
+  pub after : play t′ l′ ≡ plays m plan (capacity l) 0 orders (play t l) .play
+  pub extends : Extends l l′
+  pub run : Run-of m plan (capacity l) (plays m plan (capacity l) 0 orders (play t l) .calls) (play t l) (play t′ l′)

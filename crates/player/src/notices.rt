@@ -13,9 +13,15 @@ use text::Line;
 #[derive(Clone, Copy)]
 pub enum Outcome {
     // a record, or the group that the file asks for, was refused: nothing is played
-    Refused { byte: usize, number: u8 },
+    Refused {
+        byte: usize,
+        number: u8,
+    },
     // it was played, to its end or to a stop, and the run was exported, whole or cut
-    Played { cut: bool, played: Result<(), PlayStop> },
+    Played {
+        cut: bool,
+        played: Result<(), PlayStop>,
+    },
 }
 
 // The lines that tell it, the byte places past them 0.

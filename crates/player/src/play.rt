@@ -2,11 +2,10 @@
 ghost use mathlib.Core.Path.{_≡_};
 ghost use Prim.Native.Nat.{_-_};
 ghost use lib.ListN.{replicate};
-ghost use Rattle.slots.specs.Slots.{items, capacity, Extends};
+ghost use Rattle.slots.specs.Slots.{items};
 ghost use Rattle.protocol.specs.declared.call.Call.the-variants.{Tick};
-ghost use Rattle.group.specs.Views.{play as shown};
 ghost use Rattle.player.specs.declared.play.PlayFault.the-variants.{Refused};
-ghost use Rattle.player.specs.Playing.{own-call, calls-for, plays, fault-number, fault-told, stop-told, Made, Run-of};
+ghost use Rattle.player.specs.Playing.{own-call, calls-for, fault-number, fault-told, stop-told, Made, Orders-played};
 use group::Group;
 use orders::order::Order;
 use orders::order::OrderKind;
@@ -104,10 +103,7 @@ pub fn play<P: Pace>(
 ) -> Result<(), PlayStop>
     ensures pace { λ _. ⌜ now (group .exit) .pace ≡ now (group .entry) .pace ⌝ }
     ensures plan { λ _. ⌜ now (group .exit) .plan ≡ now (group .entry) .plan ⌝ }
-    ensures extends { λ _. ⌜ Extends (now (log .entry)) (now (log .exit)) ⌝ }
-    ensures after { λ _. ⌜ shown (now (group .exit) .table) (now (log .exit)) ≡ plays (means (now (group .entry) .pace)) (now (group .entry) .plan) (capacity (now (log .entry))) 0 (items (now (orders .entry))) (shown (now (group .entry) .table) (now (log .entry))) .play ⌝ }
-    ensures answer { λ r. ⌜ stop-told r ≡ plays (means (now (group .entry) .pace)) (now (group .entry) .plan) (capacity (now (log .entry))) 0 (items (now (orders .entry))) (shown (now (group .entry) .table) (now (log .entry))) .stop ⌝ }
-    ensures run { λ _. ⌜ Run-of (means (now (group .entry) .pace)) (now (group .entry) .plan) (capacity (now (log .entry))) (plays (means (now (group .entry) .pace)) (now (group .entry) .plan) (capacity (now (log .entry))) 0 (items (now (orders .entry))) (shown (now (group .entry) .table) (now (log .entry))) .calls) (shown (now (group .entry) .table) (now (log .entry))) (shown (now (group .exit) .table) (now (log .exit))) ⌝ }
+    ensures played { λ r. ⌜ Orders-played (means (now (group .entry) .pace)) (now (group .entry) .plan) (items (now (orders .entry))) (now (group .entry) .table) (now (group .exit) .table) (now (log .entry)) (now (log .exit)) (stop-told r) ⌝ }
 {
     let all = orders.as_slice();
     for (place, order) in all.iter().enumerate() {

@@ -1,5 +1,4 @@
 // All that the program does between its input and its output.
-ghost use mathlib.Core.Path.{_≡_};
 ghost use Prim.Native.Nat.{_≤_};
 ghost use lib.ListN.{length};
 ghost use Rattle.pace.specs.Waits.{capped};

@@ -10,8 +10,11 @@ use std::io::Write;
 
 // More of the input is not read.
 const INPUT_BYTES: u64 = 65_536;
+
 const ORDER_SLOTS: usize = 8_192;
+
 const LOG_SLOTS: usize = 2_048;
+
 const OUTPUT_BYTES: usize = 65_536;
 
 // What a slot holds before it is used.
@@ -21,6 +24,7 @@ const NO_ORDER: Order = Order {
     leg: 0,
     tick: 0,
 };
+
 const NO_HAPPENING: Happening = Happening {
     tick: 0,
     owner: 0,

@@ -80,7 +80,12 @@ fn walk<P: Pace + Drop>(rt: &LibcRuntime, pace: P, plan: Plan, orders: &[Order])
 }
 
 // The pace goes under its cap, and then the plan is made; the first refusal is told and nothing is played.
-pub fn walk_capped<P: Pace + Drop>(rt: &LibcRuntime, pace: P, start: Start, orders: &[Order]) -> io::Result<()> {
+pub fn walk_capped<P: Pace + Drop>(
+    rt: &LibcRuntime,
+    pace: P,
+    start: Start,
+    orders: &[Order],
+) -> io::Result<()> {
     let mut capped = Cap::new(pace);
     if let Err(refusal) = capped.set(start.cap as u32) {
         return refused_at_byte(rt, 0, refusal.number());

@@ -1,5 +1,5 @@
-use mathlib.Core.Path.{_≡_, refl, ap, _∙_}
-use mathlib.Core.List.{List, append-assoc}
+use mathlib.Core.Path.{refl, ap, _∙_}
+use mathlib.Core.List.{append-assoc}
 use native.Mathlib.Omega.{arith}
 use lib.ListN.{length-append}
 use Rattle.std.specs.Written.{decimal}

@@ -1,14 +1,13 @@
-use Prim.Native.Nat.{_<_}
 use mathlib.Core.Path.{refl, sym, ap, _∙_}
 use native.Mathlib.Omega.{arith}
-use lib.ListN.{length, getD}
+use lib.ListN.{getD}
 use Rattle.std.proofs.shelf.Lists.{drop-all}
 use Rattle.slots.specs.Slots.{capacity}
 use Rattle.slots.proofs.Growing.{extends-trans}
 use Rattle.group.specs.Views.{play}
 use Rattle.orders.specs.declared.order.Order.{Order}
 use Rattle.orders.specs.declared.order.OrderKind.the-variants.{Deliver}
-use Rattle.player.specs.Playing.{Stop, calls-for}
+use Rattle.player.specs.Playing.{calls-for}
 use Rattle.player.proofs.Turns.{made-turn}
 use Rattle.player.proofs.Obeying.{some-fault}
 use Rattle.player.proofs.Playing.{order-on, order-refused, orders-done}
@@ -53,15 +52,12 @@ returns-in-Err g c =
     let w = made-turn means (a .pace) (x .group .pace) (a .plan) (x .group .plan) room (calls-for (x .group .table .clock) o) (x .group .table) (y .group .table) (x .log) (y .log) _ (i .1) (i .2) (i .3 .long) (e .made) in
     let k = some-fault (c .in-Err .fault) in
     let r = order-refused (means (a .pace)) (a .plan) room _ os (x .place) o nothing (play (x .group .table) (x .log)) (play (y .group .table) (y .log)) (k .0) (c .loop-place-test .taken) refl (sym (w .0) ∙ k .1) (w .1) (i .0) in
-    let f = ended (means (a .pace)) (a .plan) room os _ (play (a .table) (c .args .log .now)) _ _ (c .as-slice-all .ensures) (r .0)
-        (ap (λ n. record { order = x .place; number = n }) (k .1) ∙ r .1) in
     record {
       pace = e .pace ∙ i .1;
       plan = e .plan ∙ i .2;
-      extends = extends-trans _ _ _ (i .3) (e .made .extends);
-      after = f .after;
-      answer = f .answer;
-      run = f .run;
+      played =
+          ended (means (a .pace)) (a .plan) os _ (a .table) (y .group .table) (c .args .log .now) (y .log) _ (c .as-slice-all .ensures) (extends-trans _ _ _ (i .3) (e .made .extends))
+          (r .0) (ap (λ n. record { order = x .place; number = n }) (k .1) ∙ r .1);
     }
 
 pub returns : need.returns
@@ -73,5 +69,8 @@ returns g c =
     let m = g .P·Pace .means (a .pace) in
     let room = capacity (c .args .log .now) in
     let r = orders-done m (a .plan) room _ os (x .place) (play (x .group .table) (x .log)) (drop-all (x .place) os (omega arith)) (i .0) in
-    let f = ended m (a .plan) room os _ (play (a .table) (c .args .log .now)) _ _ (c .as-slice-all .ensures) (r .0) (r .1) in
-    record { pace = i .1; plan = i .2; extends = i .3; after = f .after; answer = f .answer; run = f .run }
+    record {
+      pace = i .1;
+      plan = i .2;
+      played = ended m (a .plan) os _ (a .table) (x .group .table) (c .args .log .now) (x .log) _ (c .as-slice-all .ensures) (i .3) (r .0) (r .1);
+    }

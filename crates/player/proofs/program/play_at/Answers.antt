@@ -36,6 +36,7 @@ came g c hs′ r bytes lines back was prints =
     let made = c .in-Continue-plan .ensures tt in
     let o = c .open-group .ensures in
     let p = c .play-played .ensures in
+    let q = p .played in
     let e = c .export .ensures in
     let pace = c .open-group .result .pace in
     let plan : Plan = c .open-group .result .plan in
@@ -50,7 +51,7 @@ came g c hs′ r bytes lines back was prints =
     set-up start _ m plan _ _ hs′ _ _ bytes lines
     (none-no start (set .answer .0) (made .0)) same (ap (λ (q : Plan). q .kind) (o .plan) ∙ made .1) (ap (λ (q : Plan). q .n) (o .plan) ∙ made .2)
     (played m sound plan (items (c .args .orders .now)) (c .args .log-slots .now) (c .open-group .result .table) (x .group .table) (c .new-log .result) (x .log) (stop-told (c .play-played .result))
-    new (c .new-log .ensures .empty) (c .new-log .ensures .spare) (p .after) (p .answer) (p .extends)
+    new (c .new-log .ensures .empty) (c .new-log .ensures .spare) (q .after) (q .answer) (q .extends)
     hs′ (c .args .out .now) (c .export .last .out) (x .group .plan .n) r bytes lines
     back (ap (λ (q : Plan). q .n) (p .plan)) (e .bytes) (sym was ∙ e .answer) prints)
 
@@ -58,7 +59,7 @@ pub returns-in-Break-exported : need.returns-in-Break-exported
 returns-in-Break-exported g c =
     let p = err-from-errBy (c .from-residual-in-Break-exported .result) (c .from-residual-in-Break-exported .ensures .1) in
     let r = p .1 ∙ ap Err (p .2) in
-    let tie = c .play-played .ensures .extends .lent ∙ c .new-log .ensures .lent in
+    let tie = c .play-played .ensures .played .extends .lent ∙ c .new-log .ensures .lent in
     record {
       run =
           came g (need.at·returns-in-Break-exported g c .After-export) _ _ _ _ (search needs) (c .in-Break-exported .was tt) (ap bytes-told r, ap lines-told r);
@@ -69,7 +70,7 @@ pub returns : need.returns
 returns g c =
     let e = c .in-Continue-exported .ensures tt in
     let x = c .play-played .last in
-    let tie = c .play-played .ensures .extends .lent ∙ c .new-log .ensures .lent in
+    let tie = c .play-played .ensures .played .extends .lent ∙ c .new-log .ensures .lent in
     record {
       run =
           came g (need.at·returns g c .After-export) _ _ _ _ (search needs) (c .in-Continue-exported .was tt) (refl, refl);
