@@ -30,7 +30,7 @@ use Rattle.graphml.specs.Answer.{in-frame, part, over, summary, written, export
 use Rattle.graphml.specs.Export.{export-answer, export-bytes}
 use Rattle.player.specs.Playing.{Stop, Playing, plays}
 use Rattle.player.specs.Program.{parties-no, or-else, cap-and-plan-no, run, Keeps-the-rules, Prints, Played, Set-up}
-use Rattle.player.proofs.Own.{own-log}
+use Rattle.protocol.proofs.Own.{own-log}
 use Rattle.player.proofs.Running.{plays-run}
 
 -- both questions are answered yes

@@ -7,4 +7,3 @@ pub mod Running
 pub mod Lengths
 pub mod Files
 pub mod Opening
-pub mod Own

@@ -1,24 +1,19 @@
 -- The file of a run out of what the export promises of it.
-use Prim.Native.Nat.{ℕ, _-_, _≤_, _<_}
+use Prim.Native.Nat.{ℕ, _-_}
 use mathlib.Core.Path.{_≡_, ap, _∙_, subst}
 use mathlib.Core.Bool.{Bool, true, false, cond}
-use mathlib.Core.List.{List, [], _∷_, map}
-use native.Mathlib.Omega.{arith}
-use lib.ListN.{length, take, getD}
+use mathlib.Core.List.{List, map}
+use lib.ListN.{length, take}
 use Rattle.std.specs.declared.result.Result.{Result}
 use Rattle.std.specs.declared.result.Result.the-variants.{Ok, Err}
 use Rattle.std.specs.Vec.{made}
-use Rattle.std.proofs.shelf.Lists.{getD-map}
-use Rattle.std.proofs.shelf.Ways.{tells}
-use Rattle.slots.specs.Slots.{last-time}
 use Rattle.pace.specs.Meaning.{Meaning}
 use Rattle.protocol.specs.declared.plan.Plan.{Plan}
 use Rattle.protocol.specs.declared.call.Step.{Step}
 use Rattle.protocol.specs.Group.{Play, opened}
-use Rattle.protocol.specs.declared.happening.Happening.{Happening}
-use Rattle.protocol.specs.Runs.{tick-of, is-own-log}
-use Rattle.protocol.specs.Beats.{Edge, edges, deliveries, nothing, happening-at}
+use Rattle.protocol.specs.Beats.{Edge, edges, deliveries}
 use Rattle.protocol.specs.Order.{Log-in-order}
+use Rattle.protocol.proofs.Own.{own-log}
 use Rattle.protocol.specs.Rehearsals.{call-of}
 use Rattle.graphml.specs.declared.answer.Exported.{Exported}
 use Rattle.graphml.specs.declared.answer.Refusal.{Refusal}
@@ -30,21 +25,6 @@ use Rattle.graphml.specs.Nested.{WellNested}
 use Rattle.graphml.specs.Answer.{part, exported, written}
 use Rattle.graphml.specs.Export.{export-answer, export-bytes}
 use Rattle.rehearsal.specs.Promise.{Shows-the-run}
-
--- the last record of a log in order is not later than the clock
-last-early : (c : ℕ) (log : List Happening) → ((k : ℕ) → k < length log → happening-at log k .tick ≤ c) → last-time tick-of log ≤ c
-last-early c [] h = omega arith
-last-early c (x ∷ log) h =
-    let at : getD (map tick-of (x ∷ log)) (length (x ∷ log) - 1) 0 ≡ happening-at (x ∷ log) (length (x ∷ log) - 1) .tick =
-    getD-map tick-of (x ∷ log) (length (x ∷ log) - 1) nothing 0 (omega arith) in
-    omega (arith, at, h (length (x ∷ log) - 1) (omega arith))
-
--- so the group takes it for its own
-own : (plan : Plan) (s : Play) → Log-in-order plan s → is-own-log s ≡ true
-own plan s order =
-    let early = last-early (s .table .clock) (s .log) (order .in-order .none-later) in
-    let count = order .counted in
-    grind (arith, tells)
 
 -- where the arrivals of the log are the deliveries, so are the edges of a whole file
 follow : {es fs : List Edge} (r : Result Exported Refusal) (f : Exported → List Edge) → es ≡ fs →
@@ -61,7 +41,7 @@ pub shows :
     made r (λ x. x .whole ≡ true → edges-among (tags (part (s .log) (p .n) (length out))) ≡ edges 0 (s .log)) →
     Shows-the-run m plan room steps s out out′ r
 shows m plan room steps s out out′ r p same ran order answer bytes nested cut edged =
-    let mine = own plan s order in
+    let mine = own-log plan s order in
     record {
       answer-as-defined =
           answer ∙ ap (λ (q : Plan). export-answer s (q .n) (length out)) same
