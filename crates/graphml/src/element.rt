@@ -34,7 +34,7 @@ pub struct PartyGraph {
 
 impl RunGraph {
     // The frame's first lines, with bytes set aside for its last ones.
-    pub fn open(out: &mut Output) -> RunGraph
+    pub(crate) fn open(out: &mut Output) -> RunGraph
         requires { ⌜ Sound (state (now out)) 275 ⌝ }
         ensures after { λ _. ⌜ state (now (out .exit)) ≡ wrote (state (now (out .entry))) head ⌝ }
         ensures sound { λ _. ⌜ Sound (state (now (out .exit))) 20 ⌝ }
@@ -45,7 +45,7 @@ impl RunGraph {
     }
 
     // A party's node, or the token back where it does not fit.
-    pub fn open_node(self, out: &mut Output, party: u16) -> Result<PartyNode, RunGraph>
+    pub(crate) fn open_node(self, out: &mut Output, party: u16) -> Result<PartyNode, RunGraph>
         requires { ⌜ Sound (state (now out)) 20 ⌝ }
         ensures room { λ r. ⌜ isOk r ≡ has-room (state (now (out .entry))) (node-line party) 8 ⌝ }
         ensures after { λ r. ⌜ state (now (out .exit)) ≡ cond (isOk r) (opened (state (now (out .entry))) (node-line party) 8) (state (now (out .entry))) ⌝ }
@@ -61,7 +61,7 @@ impl RunGraph {
     }
 
     // An edge, if it fits.
-    pub fn edge(&self, out: &mut Output, source: usize, target: usize) -> bool
+    pub(crate) fn edge(&self, out: &mut Output, source: usize, target: usize) -> bool
         requires { ⌜ Sound (state (now out)) 20 ⌝ }
         ensures whole { λ r. ⌜ r ≡ all-fits (now (out .entry) .room) (one (edge source target)) ⌝ }
         ensures after { λ _. ⌜ state (now (out .exit)) ≡ drawn (state (now (out .entry))) (one (edge source target)) ⌝ }
@@ -76,7 +76,7 @@ impl RunGraph {
         true
     }
 
-    pub fn close(self, out: &mut Output)
+    pub(crate) fn close(self, out: &mut Output)
         requires { ⌜ Sound (state (now out)) 20 ⌝ }
         ensures after { λ _. ⌜ state (now (out .exit)) ≡ wrote (state (now (out .entry))) tail ⌝ }
         ensures same { λ _. ⌜ name (now (out .exit) .bytes) ≡ name (now (out .entry) .bytes) ⌝ }
@@ -88,7 +88,7 @@ impl RunGraph {
 
 impl PartyNode {
     // The party's inner graph, or the token back where it does not fit.
-    pub fn open_graph(self, out: &mut Output, party: u16) -> Result<PartyGraph, PartyNode>
+    pub(crate) fn open_graph(self, out: &mut Output, party: u16) -> Result<PartyGraph, PartyNode>
         requires { ⌜ Sound (state (now out)) 28 ⌝ }
         ensures room { λ r. ⌜ isOk r ≡ has-room (state (now (out .entry))) (graph-line party) 9 ⌝ }
         ensures after { λ r. ⌜ state (now (out .exit)) ≡ cond (isOk r) (opened (state (now (out .entry))) (graph-line party) 9) (state (now (out .entry))) ⌝ }
@@ -103,7 +103,7 @@ impl PartyNode {
         }
     }
 
-    pub fn close(self, out: &mut Output) -> RunGraph
+    pub(crate) fn close(self, out: &mut Output) -> RunGraph
         requires { ⌜ Sound (state (now out)) 28 ⌝ }
         ensures after { λ _. ⌜ state (now (out .exit)) ≡ wrote (state (now (out .entry))) node-end ⌝ }
         ensures sound { λ _. ⌜ Sound (state (now (out .exit))) 20 ⌝ }
@@ -117,7 +117,7 @@ impl PartyNode {
 
 impl PartyGraph {
     // A happening, if it fits.
-    pub fn happening(&self, out: &mut Output, place: usize, h: Happening) -> bool
+    pub(crate) fn happening(&self, out: &mut Output, place: usize, h: Happening) -> bool
         requires { ⌜ Sound (state (now out)) 37 ⌝ }
         ensures whole { λ r. ⌜ r ≡ all-fits (now (out .entry) .room) (one (happened place h)) ⌝ }
         ensures after { λ _. ⌜ state (now (out .exit)) ≡ drawn (state (now (out .entry))) (one (happened place h)) ⌝ }
@@ -132,7 +132,7 @@ impl PartyGraph {
         true
     }
 
-    pub fn close(self, out: &mut Output) -> PartyNode
+    pub(crate) fn close(self, out: &mut Output) -> PartyNode
         requires { ⌜ Sound (state (now out)) 37 ⌝ }
         ensures after { λ _. ⌜ state (now (out .exit)) ≡ wrote (state (now (out .entry))) graph-end ⌝ }
         ensures sound { λ _. ⌜ Sound (state (now (out .exit))) 28 ⌝ }

@@ -77,7 +77,7 @@ fn is_arrived(kind: HappeningKind) -> bool
 }
 
 // The parties 0 to `parties`, and then the edges; the token comes back.
-pub fn write_body(
+pub(crate) fn write_body(
     out: &mut Output,
     run: RunGraph,
     log: &[Happening],

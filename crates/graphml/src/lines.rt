@@ -5,7 +5,7 @@ ghost use Rattle.graphml.specs.Texts.{node-line, graph-line, happening-line, e
 use protocol::happening::Happening;
 use text::Line;
 
-pub fn node_line(party: u16) -> Line
+pub(crate) fn node_line(party: u16) -> Line
     ensures { λ r. ⌜ text r ≡ node-line party ⌝ }
 {
     let mut l = Line::new();
@@ -15,7 +15,7 @@ pub fn node_line(party: u16) -> Line
     l
 }
 
-pub fn graph_line(party: u16) -> Line
+pub(crate) fn graph_line(party: u16) -> Line
     ensures { λ r. ⌜ text r ≡ graph-line party ⌝ }
 {
     let mut l = Line::new();
@@ -25,7 +25,7 @@ pub fn graph_line(party: u16) -> Line
     l
 }
 
-pub fn happening_line(place: usize, h: &Happening) -> Line
+pub(crate) fn happening_line(place: usize, h: &Happening) -> Line
     ensures { λ r. ⌜ text r ≡ happening-line place (now (h .entry)) ⌝ }
 {
     let mut l = Line::new();
@@ -39,7 +39,7 @@ pub fn happening_line(place: usize, h: &Happening) -> Line
     l
 }
 
-pub fn edge_line(source: usize, target: usize) -> Line
+pub(crate) fn edge_line(source: usize, target: usize) -> Line
     ensures { λ r. ⌜ text r ≡ edge-line source target ⌝ }
 {
     let mut l = Line::new();

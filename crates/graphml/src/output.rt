@@ -18,7 +18,7 @@ pub struct Output<'a> {
 
 impl Output<'_> {
     // Text for which bytes were set aside.
-    pub fn write(&mut self, text: &[u8])
+    pub(crate) fn write(&mut self, text: &[u8])
         requires { ⌜ now self .at + length (now text) ≤ length (now (now self .bytes)) ⌝ }
         ensures after { λ _. ⌜ state (now (self .exit)) ≡ wrote (state (now (self .entry))) (now (text .entry)) ⌝ }
         ensures same { λ _. ⌜ name (now (self .exit) .bytes) ≡ name (now (self .entry) .bytes) ⌝ }
@@ -29,7 +29,7 @@ impl Output<'_> {
     }
 
     // The opening of an element, if it and the closing fit.
-    pub fn begin(&mut self, opening: &[u8], closing: usize) -> bool
+    pub(crate) fn begin(&mut self, opening: &[u8], closing: usize) -> bool
         requires { ⌜ now self .at + now self .room ≤ length (now (now self .bytes)) ⌝ }
         ensures room { λ r. ⌜ r ≡ has-room (state (now (self .entry))) (now (opening .entry)) closing ⌝ }
         ensures after { λ r. ⌜ state (now (self .exit)) ≡ cond r (opened (state (now (self .entry))) (now (opening .entry)) closing) (state (now (self .entry))) ⌝ }

@@ -113,7 +113,7 @@ fn tell_party<P: Pace>(
     tell_bound(rt, who, limits, c, bound, end)
 }
 
-pub fn tell_ends<P: Pace>(rt: &LibcRuntime, group: &Group<P>) -> io::Result<()> {
+pub(crate) fn tell_ends<P: Pace>(rt: &LibcRuntime, group: &Group<P>) -> io::Result<()> {
     let clock = group.clock();
     println!(rt)?;
     println!(rt, "the clock is {clock}")?;
@@ -133,7 +133,7 @@ pub fn tell_ends<P: Pace>(rt: &LibcRuntime, group: &Group<P>) -> io::Result<()> 
     Ok(())
 }
 
-pub fn tell_file<P: Pace>(
+pub(crate) fn tell_file<P: Pace>(
     rt: &LibcRuntime,
     group: &Group<P>,
     log: &SlotList<'_, Happening>,

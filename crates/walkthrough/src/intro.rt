@@ -17,7 +17,7 @@ fn tell_waits<P: Pace>(rt: &LibcRuntime, pace: &P) -> io::Result<()> {
     println!(rt, "; S, their sum, is {sum}")
 }
 
-pub fn introduce<P: Pace>(rt: &LibcRuntime, group: &Group<P>) -> io::Result<()> {
+pub(crate) fn introduce<P: Pace>(rt: &LibcRuntime, group: &Group<P>) -> io::Result<()> {
     let plan = group.plan();
     let parties = plan.parties();
     let (kind, made_of) = match plan.kind() {

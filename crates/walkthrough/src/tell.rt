@@ -65,7 +65,7 @@ fn tell_sending<P: Pace>(
 }
 
 // Tells the record at a place of the log, just after it was written.
-pub fn tell<P: Pace>(
+pub(crate) fn tell<P: Pace>(
     rt: &LibcRuntime,
     group: &Group<P>,
     log: &SlotList<'_, Happening>,
@@ -115,13 +115,13 @@ fn question(refusal: Refusal) -> &'static str {
     }
 }
 
-pub fn tell_refusal(rt: &LibcRuntime, clock: u32, refusal: Refusal) -> io::Result<()> {
+pub(crate) fn tell_refusal(rt: &LibcRuntime, clock: u32, refusal: Refusal) -> io::Result<()> {
     let number = refusal.number();
     let asked = question(refusal);
     println!(rt, "tick {clock}  refused by number {number}: {asked} No.")
 }
 
 // A fault of the schedule itself, as `runfile` tells it.
-pub fn refused_at_byte(rt: &LibcRuntime, byte: usize, number: u8) -> io::Result<()> {
+pub(crate) fn refused_at_byte(rt: &LibcRuntime, byte: usize, number: u8) -> io::Result<()> {
     println!(rt, "refused byte {byte} number {number}")
 }

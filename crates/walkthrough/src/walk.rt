@@ -80,7 +80,7 @@ fn walk<P: Pace + Drop>(rt: &LibcRuntime, pace: P, plan: Plan, orders: &[Order])
 }
 
 // The pace goes under its cap, and then the plan is made; the first refusal is told and nothing is played.
-pub fn walk_capped<P: Pace + Drop>(
+pub(crate) fn walk_capped<P: Pace + Drop>(
     rt: &LibcRuntime,
     pace: P,
     start: Start,
