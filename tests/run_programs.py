@@ -8,6 +8,7 @@ From the repository's root, once target/bin/ has the programs:
 - runfile plays every examples/*.orders and COUNT drawn files (400 unless said);
   each output is compared with the model's, byte for byte, and each exported file
   is read by check_graphml;
+- it also plays two of the examples cut short at every byte, and with each byte damaged;
 - each examples/*.txt composes to the order file beside it;
 - the walkthrough runs without input, and the file it prints last is read too.
 """
@@ -24,6 +25,7 @@ TOP = pathlib.Path(__file__).resolve().parent.parent
 BIN = TOP / "target" / "bin"
 KEEP = TOP / "target" / "failed-runs"
 SECONDS = 60
+SPOILT = ["two-parties-one-crashes", "dynamic-group-with-a-leaver"]
 
 
 def run(program, data=b""):
@@ -84,12 +86,25 @@ def check_walkthrough():
     return check_file(got[at:])
 
 
+def spoilt(data):
+    """The file cut short at every byte, and with each byte turned over."""
+    for at in range(len(data)):
+        yield f"cut at {at}", data[:at]
+        yield f"byte {at} damaged", data[:at] + bytes([data[at] ^ 0xFF]) + data[at + 1:]
+        yield f"byte {at} one more", data[:at] + bytes([(data[at] + 1) % 256]) + data[at + 1:]
+
+
 def checks(count, seed):
     """Name and fault, if any, of each check."""
     examples = sorted((TOP / "examples").glob("*.orders"))
     yield "examples", None if examples else "there are none"
     for path in examples:
         yield f"examples/{path.name}", check_example(path)
+    for name in SPOILT:
+        whole = (TOP / "examples" / f"{name}.orders").read_bytes()
+        for how, data in spoilt(whole):
+            if schedules.playable(data):
+                yield f"{name}, {how}", check_runfile(data)
     for place, data in enumerate(schedules.drawn(seed, count)):
         name = f"drawn-{seed}-{place}"
         yield name, check_drawn(name, data)
