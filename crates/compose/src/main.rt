@@ -1,4 +1,5 @@
 // Composes the text schedule on standard input, and writes the order file to standard output.
+#![tactic(auto)]
 use orders::order::{Order, OrderKind};
 use schedule::compose::compose;
 use schedule::notice::notice;

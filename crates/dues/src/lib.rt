@@ -1,4 +1,6 @@
 // What is due next in a group: until then its ticks only count the clock.
+#![tactic(auto)]
+
 mod next;
 mod patience;
 

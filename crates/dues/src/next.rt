@@ -85,7 +85,7 @@ fn round_due(table: &Table) -> u32
 pub fn next_due<P: Pace>(pace: &P, plan: &Plan, table: &Table) -> u32
     ensures late { table.now.clock ≤ result }
     ensures limit { table.now.clock < result → result ≤ 4000000000 }
-    ensures quiet { (c : ℕ) → table.now.clock ≤ c → c < result → Quiet (means pace.now) plan.now table.now c }
+    ensures quiet { (c : ℕ) → table.now.clock ≤ c → c < result → Quiet (P.means pace.now) plan.now table.now c }
 {
     let patience = patience_for(pace, plan, table);
     let parties = parties_due(table, plan.parties(), patience, pace.limits());

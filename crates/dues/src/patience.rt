@@ -13,7 +13,7 @@ use protocol::table::Table;
 
 // D: the ticks of silence after which a party ends.
 pub fn patience_of<P: Pace>(pace: &P, kind: GroupKind) -> u32
-    ensures { result ≡ patience (means pace.now) kind }
+    ensures { result ≡ patience (P.means pace.now) kind }
 {
     let limits = pace.limits();
     let closed = limits.tmax() + total(pace);
@@ -25,7 +25,7 @@ pub fn patience_of<P: Pace>(pace: &P, kind: GroupKind) -> u32
 
 // D, or 2 tmax where nobody is silent for that long. D is never less, so that the waits are summed only where a party may end.
 pub fn patience_for<P: Pace>(pace: &P, plan: &Plan, table: &Table) -> u32
-    ensures { DoesFor (means pace.now) plan.now table.now result }
+    ensures { DoesFor (P.means pace.now) plan.now table.now result }
 {
     let least = 2 * pace.limits().tmax();
     if is_any_silent(table, plan.parties(), least) {

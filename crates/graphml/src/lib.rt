@@ -1,4 +1,5 @@
 // A log of happenings as GraphML, in the caller's bytes.
+#![tactic(auto)]
 pub mod answer;
 mod element;
 pub mod example;

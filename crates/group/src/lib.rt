@@ -1,3 +1,4 @@
+#![tactic(auto)]
 mod acts;
 mod advancing;
 mod calls;

@@ -1,4 +1,5 @@
 // Runs played by hand, with their figures, made again through the public calls.
+#![tactic(auto)]
 #[cfg(test)]
 mod files;
 #[cfg(test)]

@@ -1,4 +1,6 @@
 // Paces of a heartbeat: how long the root waits in each round.
+#![tactic(auto)]
+
 pub mod cap;
 pub mod cases;
 pub mod halving;

@@ -4,7 +4,7 @@ ghost use Rattle.std.specs.Prelude.{◌≡◌, ◌≤◌, sum};
 use crate::meaning::Pace;
 
 pub fn total<P: Pace>(p: &P) -> u32
-    ensures sum { result ≡ sum (means p.now).waits }
+    ensures sum { result ≡ sum (P.means p.now).waits }
     ensures small { result ≤ 64000000 }
 {
     let mut s = 0;

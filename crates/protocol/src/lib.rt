@@ -1,4 +1,6 @@
 // The state of a heartbeat group, and what the rules say of it.
+#![tactic(auto)]
+
 pub mod call;
 pub mod happening;
 pub mod kind;

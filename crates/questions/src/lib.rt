@@ -1,4 +1,6 @@
 // The questions that a group puts before each call: the first that is answered no is the refusal.
+#![tactic(auto)]
+
 mod calls;
 mod log;
 mod tick;

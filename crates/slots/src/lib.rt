@@ -1,4 +1,6 @@
 // A list of records in slots that the caller lends.
+#![tactic(auto)]
+
 ghost use Rattle.std.specs.Prelude.{◌≤◌, length};
 
 pub mod list;

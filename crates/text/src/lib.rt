@@ -1,4 +1,6 @@
 // Text in bytes: one write into lent bytes, a number's decimal digits, and one line under construction.
+#![tactic(auto)]
+
 ghost use Rattle.std.specs.Prelude.{◌≡◌, ◌-◌, ◌≤◌, length, drop, replicate};
 
 mod build;

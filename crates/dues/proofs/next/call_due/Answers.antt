@@ -15,7 +15,7 @@ before_next_multiple t a x some from before none =
 
 pub returns-else-silent-gt0 : goal.returns-else-silent-gt0
 returns-else-silent-gt0 c x from before =
-    let silent = c.saturating-sub-silent.result in
+    let silent = c.saturating_sub-silent.result in
     let t = c.tmin.result in
     let none : 0 < silent → 0 < silent % t = elim c.else-silent-gt0.either [ inl h ↦ λ _. omega (arith, h.1) | inr h ↦ λ some. absurd (omega (arith, h, some)) ] in
     subst (λ (u : ℕ). (ltb 0 (x - c.args.since) && eqb ((x - c.args.since) % u) 0) ≡ false) c.tmin.ensures

@@ -8,6 +8,6 @@ returns g c =
       late = omega arith;
       limit = omega arith;
       quiet = λ x from before.
-          quiet_by (g.P.Pace.means c.args.pace.now) c.args.plan.now c.args.table.now _ _ _ x c.patience-for-patience.ensures c.limits.ensures.tmin c.parties.ensures
-          (c.round-due.ensures x (omega arith)) (c.parties-due-parties.ensures x from (omega arith));
+          quiet_by (g.P.Pace.means c.args.pace.now) c.args.plan.now c.args.table.now _ _ _ x c.patience_for-patience.ensures c.limits.ensures.tmin c.parties.ensures
+          (c.round_due.ensures x (omega arith)) (c.parties_due-parties.ensures x from (omega arith));
     }

@@ -2,8 +2,8 @@ use Rattle.std.proofs.Common.{sym, arith}
 use Rattle.dues.proofs.Silence.{least_does}
 use Rattle.dues.proofs.patience.patience_for.Goals as goal
 
-pub returns-else-is-any-silent : goal.returns-else-is-any-silent
-returns-else-is-any-silent g c =
+pub returns-else-is_any_silent : goal.returns-else-is_any_silent
+returns-else-is_any_silent g c =
     let pace = c.args.pace.now in
     least_does (g.P.Pace.means pace) (g.met.P.Pace.lawful pace) c.args.plan.now c.args.table.now _ _ (omega arith) c.parties.ensures
-    (sym c.if-is-any-silent.ensures)
+    (sym c.if-is_any_silent.ensures)

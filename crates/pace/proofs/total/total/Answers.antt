@@ -3,10 +3,10 @@ use Rattle.std.proofs.lemmas.List.{take_all}
 use Rattle.std.proofs.lemmas.Option.{slice_get-get_or}
 use Rattle.pace.proofs.Laws.{sum_small, sum_front_small, sum_more}
 use Rattle.pace.proofs.total.total.Goals as goal
-use Rattle.pace.proofs.total.total.Goals.{in-Some, in-default}
+use Rattle.pace.proofs.total.total.Goals.{in-Some, in_default}
 
-pub overflow-add-s : goal.overflow-add-s
-overflow-add-s g c =
+pub overflow_add-s : goal.overflow_add-s
+overflow_add-s g c =
     let p = c.args.p.now in
     let k = c.loop-k.k in
     let more = sum_more (g.P.Pace.means p).waits k c.in-Some.w (omega arith) c.in-Some.ensures in
@@ -18,7 +18,7 @@ loop-k-preserved g c =
     let h : c.loop-k.k < length ws = omega arith in
     elim c.match-wait.branch [
       | in-Some w ↦ (let q = w.in-Some.ensures in let m = sum_more ws c.loop-k.k w.in-Some.w h q in cc)
-      | in-default w ↦ absurd (w.in-default.not-Some (get_or ws c.loop-k.k 0) (c.wait.ensures ∙ slice_get-get_or ws c.loop-k.k 0 h))
+      | in_default w ↦ absurd (w.in_default.not-Some (get_or ws c.loop-k.k 0) (c.wait.ensures ∙ slice_get-get_or ws c.loop-k.k 0 h))
     ]
 
 pub returns : goal.returns

@@ -7,8 +7,8 @@ pub returns-then-free-wanted : goal.returns-then-free-wanted
 returns-then-free-wanted c =
     let all = slots_all c.args.log.now in record { number = grind (arith, nat_tests); ready = tt }
 
-pub returns-then-not-is-own-log : goal.returns-then-not-is-own-log
-returns-then-not-is-own-log c =
+pub returns-then-not-is_own_log : goal.returns-then-not-is_own_log
+returns-then-not-is_own_log c =
     let all = slots_all c.args.log.now in record { number = grind (arith, nat_tests); ready = tt }
 
 pub returns : goal.returns

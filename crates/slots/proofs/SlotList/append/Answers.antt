@@ -15,8 +15,8 @@ returns-then-free-eq0 g c =
       rises = λ r. r;
     }
 
-pub returns-then-tick-last-tick : goal.returns-then-tick-last-tick
-returns-then-tick-last-tick g c =
+pub returns-then-tick-last_tick : goal.returns-then-tick-last_tick
+returns-then-tick-last_tick g c =
     let l = c.args.self.now in
     record {
       answer = says_early g.T.Timed.time (items l) (spare l) c.args.item (omega arith) (omega arith);

@@ -6,11 +6,11 @@ use Rattle.slots.proofs.SlotList.put.Goals as goal
 pub bounds-self-self : goal.bounds-self-self
 bounds-self-self g c = has_slot c.args.self.now.slots.now c.args.self.now.len c.requires
 
-pub overflow-add-self : goal.overflow-add-self
-overflow-add-self g c = let h = has_slot c.args.self.now.slots.now c.args.self.now.len c.requires in search rules
+pub overflow_add-self : goal.overflow_add-self
+overflow_add-self g c = let h = has_slot c.args.self.now.slots.now c.args.self.now.len c.requires in search rules
 
-pub invariant-of-self : goal.invariant-of-self
-invariant-of-self g c = let h = has_slot c.args.self.now.slots.now c.args.self.now.len c.requires in search rules
+pub invariant_of-self : goal.invariant_of-self
+invariant_of-self g c = let h = has_slot c.args.self.now.slots.now c.args.self.now.len c.requires in search rules
 
 pub returns : goal.returns
 returns g c =

@@ -1,10 +1,10 @@
 use Rattle.text.proofs.Lines.{written}
 use Rattle.text.proofs.Line.add.Goals as goal
 
-pub invariant-of-self : goal.invariant-of-self
-invariant-of-self c =
+pub invariant_of-self : goal.invariant_of-self
+invariant_of-self c =
     let w = written c.args.self.now c.args.more.now c.put-end.ensures.after c.put-end.ensures.end in
-    (w.within, (w.long, (w.blank, tt)))
+    record { within = w.within; long = w.long; blank = w.blank }
 
 pub returns : goal.returns
 returns c = (written c.args.self.now c.args.more.now c.put-end.ensures.after c.put-end.ensures.end).grown

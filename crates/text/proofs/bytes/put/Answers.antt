@@ -12,7 +12,7 @@ returns c =
     let a = c.args.at in
     let k : (a + n) - a ≡ n = omega arith in
     let t = le-leb (a + n) (length out) (omega arith) in
-    let e : put_mid a (a + n - a) out c.copy-from-slice.new.self ≡ placed out a text = let e = c.copy-from-slice.ensures.after in rw (k, e, drop-drop) in
+    let e : put_mid a (a + n - a) out c.copy_from_slice.new.self ≡ placed out a text = let e = c.copy_from_slice.ensures.after in rw (k, e, drop-drop) in
     record {
       after = e ∙ sym (ap (λ b. cond b (placed out a text) out) t);
       end = sym (ap (λ b. cond b (a + n) a) t);

@@ -2,8 +2,8 @@ use Rattle.std.proofs.Common.{arith}
 use Rattle.pace.specs.Halves.{bits_ordered, told_reach, told_short}
 use Rattle.pace.proofs.halving.HalvingPace.rounds.Goals as goal
 
-pub overflow-sub-d : goal.overflow-sub-d
-overflow-sub-d c = bits_ordered c.tmin-low.result c.tmax-high.result (omega arith) (omega arith) (omega arith)
+pub overflow_sub-d : goal.overflow_sub-d
+overflow_sub-d c = bits_ordered c.tmin-low.result c.tmax-high.result (omega arith) (omega arith) (omega arith)
 
 pub returns-then-low-high : goal.returns-then-low-high
 returns-then-low-high c =

@@ -3,8 +3,8 @@ use Rattle.std.proofs.lemmas.Option.{slice_get_past}
 use Rattle.pace.specs.Halves.{halving_few, nth_halving}
 use Rattle.pace.proofs.halving.HalvingPace.wait.Goals as goal
 
-pub overflow-shr-result : goal.overflow-shr-result
-overflow-shr-result c = omega (arith, halving_few c.args.self.now.limits)
+pub overflow_shr-result : goal.overflow_shr-result
+overflow_shr-result c = omega (arith, halving_few c.args.self.now.limits)
 
 pub returns-then-k-rounds : goal.returns-then-k-rounds
 returns-then-k-rounds c = let e = nth_halving c.args.self.now.limits c.args.k (omega arith) in cc
