@@ -1,5 +1,6 @@
 // A log of happenings as GraphML, in the caller's bytes.
 #![tactic(auto)]
+
 pub mod answer;
 mod element;
 pub mod example;

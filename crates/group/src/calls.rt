@@ -20,7 +20,7 @@ impl<P: Pace> Group<P> {
     pub fn tick(&mut self, log: &mut SlotList<'_, Happening>) -> Result<(), Refusal>
         ensures pace { self.new.pace ≡ self.old.pace }
         ensures plan { self.new.plan ≡ self.old.plan }
-        ensures did { Performed (means self.old.pace) self.old.plan Tick self.old.table self.new.table log.old log.new (told result) }
+        ensures did { Performed (P.means self.old.pace) self.old.plan Tick self.old.table self.new.table log.old log.new (told result) }
     {
         ask_tick(&self.plan, &self.table, log)?;
         do_tick(&self.pace, &self.plan, &mut self.table, log);
@@ -31,7 +31,7 @@ impl<P: Pace> Group<P> {
     pub fn advance(&mut self, log: &mut SlotList<'_, Happening>, until: u32) -> Result<(), Refusal>
         ensures pace { self.new.pace ≡ self.old.pace }
         ensures plan { self.new.plan ≡ self.old.plan }
-        ensures made { Made (means self.old.pace) self.old.plan (replicate (until - self.old.table.clock) Tick) self.old.table self.new.table log.old log.new (told result) }
+        ensures made { Made (P.means self.old.pace) self.old.plan (replicate (until - self.old.table.clock) Tick) self.old.table self.new.table log.old log.new (told result) }
     {
         tick_until(&self.pace, &self.plan, &mut self.table, log, until)
     }
@@ -45,7 +45,7 @@ impl<P: Pace> Group<P> {
     ) -> Result<(), Refusal>
         ensures pace { self.new.pace ≡ self.old.pace }
         ensures plan { self.new.plan ≡ self.old.plan }
-        ensures did { Performed (means self.old.pace) self.old.plan (Deliver party leg) self.old.table self.new.table log.old log.new (told result) }
+        ensures did { Performed (P.means self.old.pace) self.old.plan (Deliver party leg) self.old.table self.new.table log.old log.new (told result) }
     {
         let beat = ask_beat(&self.plan, &self.table, log, party, leg)?;
         do_deliver(&mut self.table, log, party, leg, beat);
@@ -61,7 +61,7 @@ impl<P: Pace> Group<P> {
     ) -> Result<(), Refusal>
         ensures pace { self.new.pace ≡ self.old.pace }
         ensures plan { self.new.plan ≡ self.old.plan }
-        ensures did { Performed (means self.old.pace) self.old.plan (Lose party leg) self.old.table self.new.table log.old log.new (told result) }
+        ensures did { Performed (P.means self.old.pace) self.old.plan (Lose party leg) self.old.table self.new.table log.old log.new (told result) }
     {
         let beat = ask_beat(&self.plan, &self.table, log, party, leg)?;
         do_lose(&mut self.table, log, party, leg, beat);
@@ -72,7 +72,7 @@ impl<P: Pace> Group<P> {
     pub fn crash(&mut self, log: &mut SlotList<'_, Happening>, party: u8) -> Result<(), Refusal>
         ensures pace { self.new.pace ≡ self.old.pace }
         ensures plan { self.new.plan ≡ self.old.plan }
-        ensures did { Performed (means self.old.pace) self.old.plan (Crash party) self.old.table self.new.table log.old log.new (told result) }
+        ensures did { Performed (P.means self.old.pace) self.old.plan (Crash party) self.old.table self.new.table log.old log.new (told result) }
     {
         ask_crash(&self.plan, &self.table, log, party)?;
         do_crash(&mut self.table, log, party);
@@ -83,7 +83,7 @@ impl<P: Pace> Group<P> {
     pub fn join(&mut self, log: &mut SlotList<'_, Happening>, party: u8) -> Result<(), Refusal>
         ensures pace { self.new.pace ≡ self.old.pace }
         ensures plan { self.new.plan ≡ self.old.plan }
-        ensures did { Performed (means self.old.pace) self.old.plan (Join party) self.old.table self.new.table log.old log.new (told result) }
+        ensures did { Performed (P.means self.old.pace) self.old.plan (Join party) self.old.table self.new.table log.old log.new (told result) }
     {
         ask_join(&self.plan, &self.table, log, party)?;
         let trip = self.pace.limits().tmin();
@@ -95,7 +95,7 @@ impl<P: Pace> Group<P> {
     pub fn leave(&mut self, log: &mut SlotList<'_, Happening>, party: u8) -> Result<(), Refusal>
         ensures pace { self.new.pace ≡ self.old.pace }
         ensures plan { self.new.plan ≡ self.old.plan }
-        ensures did { Performed (means self.old.pace) self.old.plan (Leave party) self.old.table self.new.table log.old log.new (told result) }
+        ensures did { Performed (P.means self.old.pace) self.old.plan (Leave party) self.old.table self.new.table log.old log.new (told result) }
     {
         ask_leave(&self.plan, &self.table, log, party)?;
         do_leave(&mut self.table, log, party);
@@ -106,7 +106,7 @@ impl<P: Pace> Group<P> {
     pub fn perform(&mut self, log: &mut SlotList<'_, Happening>, call: Call) -> Result<(), Refusal>
         ensures pace { self.new.pace ≡ self.old.pace }
         ensures plan { self.new.plan ≡ self.old.plan }
-        ensures did { Performed (means self.old.pace) self.old.plan call self.old.table self.new.table log.old log.new (told result) }
+        ensures did { Performed (P.means self.old.pace) self.old.plan call self.old.table self.new.table log.old log.new (told result) }
     {
         match call {
             Call::Tick => self.tick(log),

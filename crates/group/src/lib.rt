@@ -1,4 +1,5 @@
 #![tactic(auto)]
+
 mod acts;
 mod advancing;
 mod calls;

@@ -73,7 +73,7 @@ impl<P: Pace> Group<P> {
 
     // D: the ticks of silence after which a party ends.
     pub fn patience(&self) -> u32
-        ensures { result ≡ patience (means self.now.pace) self.now.plan.kind }
+        ensures { result ≡ patience (P.means self.now.pace) self.now.plan.kind }
     {
         patience_of(&self.pace, self.plan.kind())
     }

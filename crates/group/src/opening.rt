@@ -37,7 +37,7 @@ impl<P: Pace> Group<P> {
     pub fn open(pace: P, plan: Plan) -> Group<P>
         ensures pace { result.pace ≡ pace }
         ensures plan { result.plan ≡ plan }
-        ensures table { result.table ≡ (opened (means pace) plan).table }
+        ensures table { result.table ≡ (opened (P.means pace) plan).table }
     {
         let length = pace.limits().tmax();
         let parties = [fresh_party(plan.kind()); 32];

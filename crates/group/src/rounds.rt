@@ -33,7 +33,7 @@ fn is_any_lost(table: &Table, n: u8, rounds: u32) -> bool
 // The shortest wait, at their misses, among the parties on the roll, or tmax with none.
 fn next_length<P: Pace>(pace: &P, table: &Table, n: u8) -> u32
     requires { n ≤ 32 }
-    ensures { result ≡ shortest (means pace.now).waits (means pace.now).tmax n table.now.parties }
+    ensures { result ≡ shortest (P.means pace.now).waits (P.means pace.now).tmax n table.now.parties }
 {
     let mut best = pace.limits().tmax();
     for i in 0..n as usize {
@@ -43,7 +43,7 @@ fn next_length<P: Pace>(pace: &P, table: &Table, n: u8) -> u32
 }
 
 fn shorter_wait<P: Pace>(pace: &P, party: &Party, best: u32) -> u32
-    ensures { result ≡ shorter (means pace.now).waits 0 best party.now }
+    ensures { result ≡ shorter (P.means pace.now).waits 0 best party.now }
 {
     let Roll::On = party.note.roll else {
         return best;
@@ -57,7 +57,7 @@ fn shorter_wait<P: Pace>(pace: &P, party: &Party, best: u32) -> u32
 // A round ends: the root stops, or starts the next round and sends.
 fn settle<P: Pace>(pace: &P, table: &mut Table, log: &mut SlotList<'_, Happening>, n: u8)
     requires { (1 ≤ n) × ((n ≤ 32) × ((table.old.clock ≤ 4000000000) × (Ready log.old table.old.clock n))) }
-    ensures { Acted n (settled (means pace.now) n) table.old table.new log.old log.new }
+    ensures { Acted n (settled (P.means pace.now) n) table.old table.new log.old log.new }
 {
     let clock = table.clock;
     if is_any_lost(table, n, pace.rounds()) {
@@ -73,7 +73,7 @@ fn settle<P: Pace>(pace: &P, table: &mut Table, log: &mut SlotList<'_, Happening
 // The root acts, where it runs and its round ends.
 fn end_round<P: Pace>(pace: &P, table: &mut Table, log: &mut SlotList<'_, Happening>, n: u8)
     requires { (1 ≤ n) × ((n ≤ 32) × ((Sane table.old) × (Ready log.old table.old.clock n))) }
-    ensures { Acted n (rounded (means pace.now) n) table.old table.new log.old log.new }
+    ensures { Acted n (rounded (P.means pace.now) n) table.old table.new log.old log.new }
 {
     if does_round_end(table) {
         count_misses(table, n);
@@ -100,7 +100,7 @@ pub(crate) fn do_tick<P: Pace>(
 )
     requires { (table.old.clock < 4000000000) × ((Sane table.old) × (Ready log.old table.old.clock (2 * plan.now.n))) }
     ensures extends { Extends log.old log.new }
-    ensures after { play table.new log.new ≡ ticked (means pace.now) plan.now (play table.old log.old) }
+    ensures after { play table.new log.new ≡ ticked (P.means pace.now) plan.now (play table.old log.old) }
 {
     let n = plan.parties();
     let limits = pace.limits();

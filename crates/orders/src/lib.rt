@@ -1,5 +1,6 @@
 // The order file: a start record and then one record for each order, read from and written as bytes.
 #![tactic(auto)]
+
 pub mod fault;
 pub mod load;
 pub mod order;

@@ -69,7 +69,7 @@ fn tick_to<P: Pace>(
 ) -> Result<(), PlayFault>
     ensures pace { group.new.pace ≡ group.old.pace }
     ensures plan { group.new.plan ≡ group.old.plan }
-    ensures made { Made (means group.old.pace) group.old.plan (replicate (tick - group.old.table.clock) Tick) group.old.table group.new.table log.old log.new (fault_told result) }
+    ensures made { Made (P.means group.old.pace) group.old.plan (replicate (tick - group.old.table.clock) Tick) group.old.table group.new.table log.old log.new (fault_told result) }
 {
     group.advance(log, tick)?;
     Ok(())
@@ -83,7 +83,7 @@ fn obey<P: Pace>(
 ) -> Result<(), PlayFault>
     ensures pace { group.new.pace ≡ group.old.pace }
     ensures plan { group.new.plan ≡ group.old.plan }
-    ensures made { Made (means group.old.pace) group.old.plan (calls_for group.old.table.clock order) group.old.table group.new.table log.old log.new (fault_told result) }
+    ensures made { Made (P.means group.old.pace) group.old.plan (calls_for group.old.table.clock order) group.old.table group.new.table log.old log.new (fault_told result) }
 {
     tick_to(group, log, order.tick)?;
     if let Some(call) = own_call(order) {
@@ -100,7 +100,7 @@ pub fn play<P: Pace>(
 ) -> Result<(), PlayStop>
     ensures pace { group.new.pace ≡ group.old.pace }
     ensures plan { group.new.plan ≡ group.old.plan }
-    ensures played { OrdersPlayed (means group.old.pace) group.old.plan (items orders.now) group.old.table group.new.table log.old log.new (stop_told result) }
+    ensures played { OrdersPlayed (P.means group.old.pace) group.old.plan (items orders.now) group.old.table group.new.table log.old log.new (stop_told result) }
 {
     let all = orders.as_slice();
     for (place, order) in all.iter().enumerate() {

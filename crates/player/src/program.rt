@@ -94,7 +94,7 @@ fn play_at<P: Pace + Drop>(
     log_slots: &mut [Happening],
     out: &mut [u8],
 ) -> Result<Ran, FileFault>
-    ensures run { SetUp (cap_and_plan_no start) (capped start.cap (means pace)) start (items orders.now) log_slots.old log_slots.new out.old out.new (bytes_told result) (lines_told result) }
+    ensures run { SetUp (cap_and_plan_no start) (capped start.cap (P.means pace)) start (items orders.now) log_slots.old log_slots.new out.old out.new (bytes_told result) (lines_told result) }
     ensures within { bytes_told result ≤ length out.old }
 {
     let mut pace = Cap::new(pace);

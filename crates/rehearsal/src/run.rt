@@ -31,7 +31,7 @@ pub fn rehearse<P: Pace>(
     ensures pace { result.group.pace ≡ pace }
     ensures plan { result.group.plan ≡ plan }
     ensures calls { map call_of steps.new ≡ map call_of steps.old }
-    ensures promise { Promised (means pace) plan steps.new result.group.table result.records slots.old slots.new out.old out.new result.exported }
+    ensures promise { Promised (P.means pace) plan steps.new result.group.table result.records slots.old slots.new out.old out.new result.exported }
 {
     let mut log = SlotList::new(slots);
     let mut group = Group::open(pace, plan);

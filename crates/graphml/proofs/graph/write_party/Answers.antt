@@ -8,10 +8,10 @@ returns-in-Err c =
     let x = no_node c.args.party c.args.log.now c.requires a.room a.after in
     record { whole = x.0; after = x.1; sound = a.sound; same = a.same }
 
-pub returns-in-Err-open-graph : goal.returns-in-Err-open-graph
-returns-in-Err-open-graph c =
+pub returns-in-Err-open_graph : goal.returns-in-Err-open_graph
+returns-in-Err-open_graph c =
     let a = c.in-Ok.ensures in
-    let b = c.in-Err-open-graph.ensures in
+    let b = c.in-Err-open_graph.ensures in
     let d = c.close.ensures in
     let x = no_graph c.args.party c.args.log.now c.requires a.room a.after b.room b.after d.after in
     record { whole = x.0; after = x.1; sound = d.sound; same = d.same ∙ b.same ∙ a.same }
@@ -19,8 +19,8 @@ returns-in-Err-open-graph c =
 pub returns : goal.returns
 returns c =
     let a = c.in-Ok.ensures in
-    let b = c.in-Ok-open-graph.ensures in
-    let d = c.write-happenings-all.ensures in
+    let b = c.in-Ok-open_graph.ensures in
+    let d = c.write_happenings-all.ensures in
     let e = c.close-node.ensures in
     let f = c.close-2.ensures in
     let x = all_in c.args.party c.args.log.now c.requires a.room a.after b.room b.after d.whole d.after e.after f.after in

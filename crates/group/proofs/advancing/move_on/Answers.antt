@@ -7,7 +7,7 @@ returns-then-due-table g c =
     let m = g.P.Pace.means c.args.pace.now in
     let t = c.args.table.now in
     let l = c.args.log.now in
-    let due = c.next-due-due.ensures in
+    let due = c.next_due-due.ensures in
     let forward = set_forward m c.args.plan.now c.args.until t t l l in
     record {
       later = omega arith;
@@ -20,8 +20,8 @@ returns-else-due-table g c =
     let t = c.args.table.now in
     let l = c.args.log.now in
     let plan = c.args.plan.now in
-    let y = c.do-tick.new in
-    let e = c.do-tick.ensures in
+    let y = c.do_tick.new in
+    let e = c.do_tick.ensures in
     record {
       later = tick_later m plan c.args.until t y.table l y.log c.requires.granted e.after;
       advanced =

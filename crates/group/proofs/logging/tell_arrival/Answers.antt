@@ -5,9 +5,9 @@ use Rattle.group.proofs.logging.tell_arrival.Goals as goal
 
 pub tell-requires : goal.tell-requires
 tell-requires c =
-    let e = c.log-record.ensures in
+    let e = c.log_record.ensures in
     still-ready _ _ _ 1 (record { room = omega (arith, c.requires.room); current = c.requires.current }) e.extends e.len e.last
 
 pub returns-in-Some : goal.returns-in-Some
 returns-in-Some c =
-    record { extends = extends_trans _ _ _ c.log-record.ensures.extends c.tell.ensures.extends; items = search rules }
+    record { extends = extends_trans _ _ _ c.log_record.ensures.extends c.tell.ensures.extends; items = search rules }

@@ -6,8 +6,8 @@ use Rattle.group.proofs.passes.time_all.Goals as goal
 pub loop-i-init : goal.loop-i-init
 loop-i-init c = pass_none _ _ _ _ c.requires.1.current
 
-pub time-one-requires : goal.time-one-requires
-time-one-requires c = (omega arith, pass_ready _ _ _ _ _ _ _ _ c.requires.1 (omega arith) c.loop-i.invariant)
+pub time_one-requires : goal.time_one-requires
+time_one-requires c = (omega arith, pass_ready _ _ _ _ _ _ _ _ c.requires.1 (omega arith) c.loop-i.invariant)
 
 pub loop-i-preserved : goal.loop-i-preserved
-loop-i-preserved c = pass-turn _ _ _ _ _ _ _ _ _ (omega arith) c.loop-i.invariant c.time-one.ensures
+loop-i-preserved c = pass-turn _ _ _ _ _ _ _ _ _ (omega arith) c.loop-i.invariant c.time_one.ensures

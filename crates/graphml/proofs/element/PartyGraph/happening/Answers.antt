@@ -9,11 +9,11 @@ use Rattle.graphml.proofs.element.PartyGraph.happening.Goals as goal
 pub returns-then-not-begin : goal.returns-then-not-begin
 returns-then-not-begin c =
     let told = c.if-not-begin.ensures in
-    let b = unlined (happened c.args.place c.args.h) refl 37 (c.as-slice.ensures ∙ c.happening-line-l.ensures) c.requires told.room told.after in
+    let b = unlined (happened c.args.place c.args.h) refl 37 (c.as_slice.ensures ∙ c.happening_line-l.ensures) c.requires told.room told.after in
     record { whole = b.0; after = b.1; sound = b.2; same = told.same }
 
 pub returns : goal.returns
 returns c =
     let told = c.if-not-begin.ensures in
-    let b = lined (happened c.args.place c.args.h) refl 37 (c.as-slice.ensures ∙ c.happening-line-l.ensures) c.requires told.room (same_state refl refl refl refl (sym (add-zero _)) ∙ ap (marked (happened c.args.place c.args.h)) told.after) (some_happening c.args.place c.args.h) (omega arith) in
+    let b = lined (happened c.args.place c.args.h) refl 37 (c.as_slice.ensures ∙ c.happening_line-l.ensures) c.requires told.room (same_state refl refl refl refl (sym (add-zero _)) ∙ ap (marked (happened c.args.place c.args.h)) told.after) (some_happening c.args.place c.args.h) (omega arith) in
     record { whole = b.0; after = b.1; sound = b.2; same = told.same }
