@@ -65,7 +65,7 @@ module _ (m : Meaning) (sound : Lawful m) (plan : Plan) (orders : List Order) (h
   kept : KeepsTheRules m plan (length hs) taken.steps ran.play
   kept = keeps m plan (length hs) sound taken.steps ran.play taken.by_the_rules
 
-  kept_by_its_run : KeepsItsRun m plan (length hs) ran
+  abbrev kept_by_its_run : KeepsItsRun m plan (length hs) ran
   kept_by_its_run =
       record {
         steps = taken.steps;

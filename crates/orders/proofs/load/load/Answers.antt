@@ -43,7 +43,7 @@ loop-order-init c =
     let at : 14 ≡ c.start.new.self.at = omega arith in
     let P : ℕ → Type 0 = λ i. Left c.in_ok-start.start bs i (items l) (spare l) out in
     let Q : List ℕ → Type 0 = λ zs. Left c.in_ok-start.start zs c.start.new.self.at (items l) (spare l) out in (
-      subst Q (sym (ap now h.bytes ∙ n.bytes)) (subst P at (record { turns = length bs; enough = omega arith; same = e })),
+      subst Q (sym (ap (λ x. x.now) h.bytes ∙ n.bytes)) (subst P at (record { turns = length bs; enough = omega arith; same = e })),
       extends_refl l,
       λ r. r,
     )

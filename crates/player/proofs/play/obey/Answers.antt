@@ -7,14 +7,14 @@ use Rattle.player.proofs.Turns.{turn, passed_on}
 use Rattle.player.proofs.Obeying.{some_fault, made_no_more, made_own}
 use Rattle.player.proofs.play.obey.Goals as goal
 
-pub returns-in-err-tick-to : goal.returns-in-err-tick-to
-returns-in-err-tick-to g c =
+pub returns-in_err-tick_to : goal.returns-in_err-tick_to
+returns-in_err-tick_to g c =
     let a = c.args.group.now in
     let o = c.args.order in
-    let e = c.in-err-tick-to.ensures in
-    let y = c.tick-to.new in
-    let p = err_from_is_err_and c.from-residual.result c.from-residual.ensures.1 in
-    let k = some_fault c.in-err-tick-to.field-0.0 in
+    let e = c.in_err-tick_to.ensures in
+    let y = c.tick_to.new in
+    let p = err_from_is_err_and c.from_residual.result c.from_residual.ensures.1 in
+    let k = some_fault c.in_err-tick_to.field-0.0 in
     record {
       pace = e.pace;
       plan = e.plan;
@@ -23,18 +23,18 @@ returns-in-err-tick-to g c =
           (at_most_one (own_call o)) _ _ k.0 k.1 (ap fault_told (p.1 ∙ ap Err p.2)) e.made;
     }
 
-pub returns-in-err-perform : goal.returns-in-err-perform
-returns-in-err-perform g c =
+pub returns-in_err-perform : goal.returns-in_err-perform
+returns-in_err-perform g c =
     let means = g.P.Pace.means in
     let a = c.args.group.now in
     let l = c.args.log.now in
     let o = c.args.order in
-    let t = c.in-ok-tick-to.ensures in
-    let x = c.tick-to.new in
-    let e = c.in-err-perform.ensures in
+    let t = c.in_ok-tick_to.ensures in
+    let x = c.tick_to.new in
+    let e = c.in_err-perform.ensures in
     let y = c.perform.new in
     let w = turn means a.pace x.group.pace a.plan x.group.plan (capacity l) c.in-Some.call x.group.table y.self.table x.log y.log _ t.pace t.plan t.made.extends.long e.did in
-    let told = passed_on c.from-residual-in-err-perform.result _ c.from-residual-in-err-perform.ensures.1 in
+    let told = passed_on c.from_residual-in_err-perform.result _ c.from_residual-in_err-perform.ensures.1 in
     record {
       pace = e.pace ∙ t.pace;
       plan = e.plan ∙ t.plan;
@@ -43,15 +43,15 @@ returns-in-err-perform g c =
           c.in-Some.call (own_call o) y.self.table y.log _ _ c.in-Some.ensures told t.made w e.did.extends;
     }
 
-pub returns-in-ok-perform : goal.returns-in-ok-perform
-returns-in-ok-perform g c =
+pub returns-in_ok-perform : goal.returns-in_ok-perform
+returns-in_ok-perform g c =
     let means = g.P.Pace.means in
     let a = c.args.group.now in
     let l = c.args.log.now in
     let o = c.args.order in
-    let t = c.in-ok-tick-to.ensures in
-    let x = c.tick-to.new in
-    let e = c.in-ok-perform.ensures in
+    let t = c.in_ok-tick_to.ensures in
+    let x = c.tick_to.new in
+    let e = c.in_ok-perform.ensures in
     let y = c.perform.new in
     let w = turn means a.pace x.group.pace a.plan x.group.plan (capacity l) c.in-Some.call x.group.table y.self.table x.log y.log 0 t.pace t.plan t.made.extends.long e.did in
     record {

@@ -22,10 +22,10 @@ loop-place-preserved g c =
     let means = g.P.Pace.means in
     let a = c.args.group.now in
     let room = capacity c.args.log.now in
-    let os = c.as-slice-all.result.now in
+    let os = c.as_slice-all.result.now in
     let x = c.loop-place in
     let i = x.invariant in
-    let e = c.in-default.ensures in
+    let e = c.in_default.ensures in
     let y = c.obey.new in
     let o = get_or os x.place nothing in
     let w = made_turn means a.pace x.group.pace a.plan x.group.plan room (calls_for x.group.table.clock o) x.group.table y.group.table x.log y.log 0 i.1 i.2 i.3.long e.made in (
@@ -41,7 +41,7 @@ returns-in-Err g c =
     let means = g.P.Pace.means in
     let a = c.args.group.now in
     let room = capacity c.args.log.now in
-    let os = c.as-slice-all.result.now in
+    let os = c.as_slice-all.result.now in
     let x = c.loop-place in
     let i = x.invariant in
     let e = c.in-Err.ensures in
@@ -54,14 +54,14 @@ returns-in-Err g c =
       pace = e.pace ∙ i.1;
       plan = e.plan ∙ i.2;
       played =
-          ended (means a.pace) (g.met.P.Pace.lawful a.pace) a.plan os _ a.table y.group.table c.args.log.now y.log _ c.as-slice-all.ensures (extends_trans _ _ _ i.3 e.made.extends)
+          ended (means a.pace) (g.met.P.Pace.lawful a.pace) a.plan os _ a.table y.group.table c.args.log.now y.log _ c.as_slice-all.ensures (extends_trans _ _ _ i.3 e.made.extends)
           r.0 (ap (λ n. record { order = x.place; number = n }) k.1 ∙ r.1);
     }
 
 pub returns : goal.returns
 returns g c =
     let a = c.args.group.now in
-    let os = c.as-slice-all.result.now in
+    let os = c.as_slice-all.result.now in
     let x = c.loop-place in
     let i = x.invariant in
     let m = g.P.Pace.means a.pace in
@@ -70,5 +70,5 @@ returns g c =
     record {
       pace = i.1;
       plan = i.2;
-      played = ended m (g.met.P.Pace.lawful a.pace) a.plan os _ a.table x.group.table c.args.log.now x.log _ c.as-slice-all.ensures i.3 r.0 r.1;
+      played = ended m (g.met.P.Pace.lawful a.pace) a.plan os _ a.table x.group.table c.args.log.now x.log _ c.as_slice-all.ensures i.3 r.0 r.1;
     }

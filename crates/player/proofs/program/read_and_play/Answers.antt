@@ -10,33 +10,33 @@ use Rattle.player.specs.Program.{waits_of}
 use Rattle.player.proofs.Opening.{pace_is, limits_refused, limits_granted, file_run}
 use Rattle.player.proofs.program.read_and_play.Goals as goal
 
-pub returns-in-err-start : goal.returns-in-err-start
-returns-in-err-start c =
+pub returns-in_err-start : goal.returns-in_err-start
+returns-in_err-start c =
     let n = c.new-orders.ensures in
-    let h = c.in-err-start.ensures in
-    let p = err_from_is_err_and c.from-residual.result c.from-residual.ensures.1 in
+    let h = c.in_err-start.ensures in
+    let p = err_from_is_err_and c.from_residual.result c.from_residual.ensures.1 in
     let r = p.1 ∙ ap Err p.2 in
     let tie = h.extends.lent ∙ n.lent in
     record {
       run =
-          file_run c.args.input.now c.new-orders.result c.load.new.list _ _ (Err c.in-err-start.field-0.0) _ _ _ _ _ _
+          file_run c.args.input.now c.new-orders.result c.load.new.list _ _ (Err c.in_err-start.field-0.0) _ _ _ _ _ _
           n.empty n.spare h.answer h.items h.spare (search rules)
           (record { log = refl; output = refl; no_file = ap bytes_told r; told = ap lines_told r });
       within = omega (arith, ap bytes_told r);
     }
 
-pub returns-in-err-limits : goal.returns-in-err-limits
-returns-in-err-limits c =
+pub returns-in_err-limits : goal.returns-in_err-limits
+returns-in_err-limits c =
     let n = c.new-orders.ensures in
-    let h = c.in-ok-start.ensures in
-    let p = err_from_is_err_and c.from-residual-in-err-limits.result c.from-residual-in-err-limits.ensures.1 in
+    let h = c.in_ok-start.ensures in
+    let p = err_from_is_err_and c.from_residual-in_err-limits.result c.from_residual-in_err-limits.ensures.1 in
     let r = p.1 ∙ ap Err p.2 in
     let tie = h.extends.lent ∙ n.lent in
     record {
       run =
-          file_run c.args.input.now c.new-orders.result c.load.new.list _ _ (Ok c.in-ok-start.start) _ _ _ _ _ _
+          file_run c.args.input.now c.new-orders.result c.load.new.list _ _ (Ok c.in_ok-start.start) _ _ _ _ _ _
           n.empty n.spare h.answer h.items h.spare (search rules)
-          (limits_refused c.in-ok-start.start (items c.load.new.list) _ _ _ _ _ _ c.in-err-limits.field-0.0 c.in-err-limits.ensures.0
+          (limits_refused c.in_ok-start.start (items c.load.new.list) _ _ _ _ _ _ c.in_err-limits.field-0.0 c.in_err-limits.ensures.0
           (record { log = refl; output = refl; no_file = ap bytes_told r; told = ap lines_told r }));
       within = omega (arith, ap bytes_told r);
     }
@@ -44,10 +44,10 @@ returns-in-err-limits c =
 pub returns-in-Halving : goal.returns-in-Halving
 returns-in-Halving c =
     let n = c.new-orders.ensures in
-    let h = c.in-ok-start.ensures in
-    let start = c.in-ok-start.start in
-    let made = c.in-ok-limits.ensures in
-    let e = c.play-at.ensures in
+    let h = c.in_ok-start.ensures in
+    let start = c.in_ok-start.start in
+    let made = c.in_ok-limits.ensures in
+    let e = c.play_at.ensures in
     let of : Limits → Meaning = λ l. capped start.cap (between l (waits_of Halving l.tmin l.tmax)) in
     let tie = h.extends.lent ∙ n.lent in
     record {
@@ -55,17 +55,17 @@ returns-in-Halving c =
           file_run c.args.input.now c.new-orders.result c.load.new.list _ _ (Ok start) _ _ _ _ _ _
           n.empty n.spare h.answer h.items h.spare (search rules)
           (limits_granted start (items c.load.new.list) _ _ _ _ _ _ _ made.0
-          (ap of c.new-in-Halving.ensures ∙ pace_is start c.in-ok-limits.limits Halving c.in-Halving.is made.1.0 made.1.1) e.run);
+          (ap of c.new-in-Halving.ensures ∙ pace_is start c.in_ok-limits.limits Halving c.in-Halving.is made.1.0 made.1.1) e.run);
       within = e.within;
     }
 
 pub returns-in-TwoPhase : goal.returns-in-TwoPhase
 returns-in-TwoPhase c =
     let n = c.new-orders.ensures in
-    let h = c.in-ok-start.ensures in
-    let start = c.in-ok-start.start in
-    let made = c.in-ok-limits.ensures in
-    let e = c.play-at-in-TwoPhase.ensures in
+    let h = c.in_ok-start.ensures in
+    let start = c.in_ok-start.start in
+    let made = c.in_ok-limits.ensures in
+    let e = c.play_at-in-TwoPhase.ensures in
     let of : Limits → Meaning = λ l. capped start.cap (between l (waits_of TwoPhase l.tmin l.tmax)) in
     let tie = h.extends.lent ∙ n.lent in
     record {
@@ -73,6 +73,6 @@ returns-in-TwoPhase c =
           file_run c.args.input.now c.new-orders.result c.load.new.list _ _ (Ok start) _ _ _ _ _ _
           n.empty n.spare h.answer h.items h.spare (search rules)
           (limits_granted start (items c.load.new.list) _ _ _ _ _ _ _ made.0
-          (ap of c.new-in-TwoPhase.ensures ∙ pace_is start c.in-ok-limits.limits TwoPhase c.in-TwoPhase.is made.1.0 made.1.1) e.run);
+          (ap of c.new-in-TwoPhase.ensures ∙ pace_is start c.in_ok-limits.limits TwoPhase c.in-TwoPhase.is made.1.0 made.1.1) e.run);
       within = e.within;
     }
