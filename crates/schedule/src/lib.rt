@@ -1,5 +1,6 @@
 // A schedule written as text: read line by line, and composed into an order file.
 #![tactic(auto)]
+
 pub mod complaint;
 pub mod compose;
 mod cut;

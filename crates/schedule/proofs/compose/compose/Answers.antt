@@ -7,41 +7,41 @@ use Rattle.schedule.proofs.Rendered.{rendered_texts}
 use Rattle.schedule.proofs.Whole.{begun, went_on, slots_hold, complained, wrote, wrote_not, reads_sound}
 use Rattle.schedule.proofs.compose.compose.Goals as goal
 
-pub returns-in-err-start : goal.returns-in-err-start
-returns-in-err-start c =
+pub returns-in_err-start : goal.returns-in_err-start
+returns-in_err-start c =
     let text = c.args.text.now in
-    let slots = c.args.order-slots.now in
+    let slots = c.args.order_slots.now in
     let new = c.new-lines.ensures in
     let list = c.new-list.ensures in
-    let m = c.read-start.new.lines in
-    let f = c.in-err-start.field-0.0 in
-    let p = err_from_is_err_and c.from-residual.result c.from-residual.ensures.1 in
-    let e = begun text c.new-lines.result.rest.now c.new-lines.result.number slots (Err f) m.number (lines_in m.rest.now) new.text new.number c.in-err-start.ensures in
+    let m = c.read_start.new.lines in
+    let f = c.in_err-start.field-0.0 in
+    let p = err_from_is_err_and c.from_residual.result c.from_residual.ensures.1 in
+    let e = begun text c.new-lines.result.rest.now c.new-lines.result.number slots (Err f) m.number (lines_in m.rest.now) new.text new.number c.in_err-start.ensures in
     let q = complained (reads text slots) f _ _ c.args.out.now e in
     let tie = list.lent in
     record {
       answer = p.1 ∙ ap Err p.2 ∙ q.0;
       output = q.1;
       slots = slots_hold (reads text slots) _ c.new-list.result slots _ e (sym list.empty) (sym list.spare) (search rules) (reads_sound text slots);
-      within = IfOk-from_err c.from-residual.result _ c.from-residual.ensures.0;
-      loads = IfOk-from_err c.from-residual.result _ c.from-residual.ensures.0;
-      reads-back = rendered_texts;
+      within = IfOk-from_err c.from_residual.result _ c.from_residual.ensures.0;
+      loads = IfOk-from_err c.from_residual.result _ c.from_residual.ensures.0;
+      reads_back = rendered_texts;
     }
 
-pub returns-in-err-read-orders : goal.returns-in-err-read-orders
-returns-in-err-read-orders c =
+pub returns-in_err-read_orders : goal.returns-in_err-read_orders
+returns-in_err-read_orders c =
     let text = c.args.text.now in
-    let slots = c.args.order-slots.now in
+    let slots = c.args.order_slots.now in
     let new = c.new-lines.ensures in
     let list = c.new-list.ensures in
-    let m = c.read-start.new.lines in
-    let s = c.in-ok-start.start in
-    let m2 = c.read-orders.new.lines in
-    let l = c.read-orders.new.list in
-    let a = begun text c.new-lines.result.rest.now c.new-lines.result.number slots (Ok s) m.number (lines_in m.rest.now) new.text new.number c.in-ok-start.ensures in
-    let f = c.in-err-read-orders.field-0.0 in
-    let h = c.in-err-read-orders.ensures in
-    let fr = c.from-residual-in-err-read-orders in
+    let m = c.read_start.new.lines in
+    let s = c.in_ok-start.start in
+    let m2 = c.read_orders.new.lines in
+    let l = c.read_orders.new.list in
+    let a = begun text c.new-lines.result.rest.now c.new-lines.result.number slots (Ok s) m.number (lines_in m.rest.now) new.text new.number c.in_ok-start.ensures in
+    let f = c.in_err-read_orders.field-0.0 in
+    let h = c.in_err-read_orders.ensures in
+    let fr = c.from_residual-in_err-read_orders in
     let p = err_from_is_err_and fr.result fr.ensures.1 in
     let e = a ∙ went_on s m.number (lines_in m.rest.now) (items c.new-list.result) (spare c.new-list.result) slots _ list.empty list.spare (h.read s) in
     let q = complained (reads text slots) f _ _ c.args.out.now e in
@@ -52,24 +52,24 @@ returns-in-err-read-orders c =
       slots = slots_hold (reads text slots) _ l slots _ e refl refl (search rules) (reads_sound text slots);
       within = IfOk-from_err fr.result _ fr.ensures.0;
       loads = IfOk-from_err fr.result _ fr.ensures.0;
-      reads-back = rendered_texts;
+      reads_back = rendered_texts;
     }
 
 pub returns-in-Some : goal.returns-in-Some
 returns-in-Some c =
     let text = c.args.text.now in
-    let slots = c.args.order-slots.now in
+    let slots = c.args.order_slots.now in
     let new = c.new-lines.ensures in
     let list = c.new-list.ensures in
-    let m = c.read-start.new.lines in
-    let s = c.in-ok-start.start in
-    let m2 = c.read-orders.new.lines in
-    let l = c.read-orders.new.list in
-    let a = begun text c.new-lines.result.rest.now c.new-lines.result.number slots (Ok s) m.number (lines_in m.rest.now) new.text new.number c.in-ok-start.ensures in
-    let h = c.in-ok-read-orders.ensures in
+    let m = c.read_start.new.lines in
+    let s = c.in_ok-start.start in
+    let m2 = c.read_orders.new.lines in
+    let l = c.read_orders.new.list in
+    let a = begun text c.new-lines.result.rest.now c.new-lines.result.number slots (Ok s) m.number (lines_in m.rest.now) new.text new.number c.in_ok-start.ensures in
+    let h = c.in_ok-read_orders.ensures in
     let w = c.in-Some.ensures in
     let e = a ∙ went_on s m.number (lines_in m.rest.now) (items c.new-list.result) (spare c.new-list.result) slots _ list.empty list.spare (h.read s) in
-    let d = wrote (reads text slots) s m2.number (items l) (spare l) c.as-slice.result.now c.args.out.now c.write.new.out e c.as-slice.ensures c.in-Some.size slots (reads_sound text slots) w.answer w.after in
+    let d = wrote (reads text slots) s m2.number (items l) (spare l) c.as_slice.result.now c.args.out.now c.write.new.out e c.as_slice.ensures c.in-Some.size slots (reads_sound text slots) w.answer w.after in
     let tie = h.extends.lent ∙ list.lent in
     record {
       answer = d.answer;
@@ -77,24 +77,24 @@ returns-in-Some c =
       slots = slots_hold (reads text slots) _ l slots _ e refl refl (search rules) (reads_sound text slots);
       within = d.within;
       loads = d.loads;
-      reads-back = rendered_texts;
+      reads_back = rendered_texts;
     }
 
 pub returns-in-None : goal.returns-in-None
 returns-in-None c =
     let text = c.args.text.now in
-    let slots = c.args.order-slots.now in
+    let slots = c.args.order_slots.now in
     let new = c.new-lines.ensures in
     let list = c.new-list.ensures in
-    let m = c.read-start.new.lines in
-    let s = c.in-ok-start.start in
-    let m2 = c.read-orders.new.lines in
-    let l = c.read-orders.new.list in
-    let a = begun text c.new-lines.result.rest.now c.new-lines.result.number slots (Ok s) m.number (lines_in m.rest.now) new.text new.number c.in-ok-start.ensures in
-    let h = c.in-ok-read-orders.ensures in
+    let m = c.read_start.new.lines in
+    let s = c.in_ok-start.start in
+    let m2 = c.read_orders.new.lines in
+    let l = c.read_orders.new.list in
+    let a = begun text c.new-lines.result.rest.now c.new-lines.result.number slots (Ok s) m.number (lines_in m.rest.now) new.text new.number c.in_ok-start.ensures in
+    let h = c.in_ok-read_orders.ensures in
     let w = c.in-None.ensures in
     let e = a ∙ went_on s m.number (lines_in m.rest.now) (items c.new-list.result) (spare c.new-list.result) slots _ list.empty list.spare (h.read s) in
-    let d = wrote_not (reads text slots) s m2.number (items l) (spare l) c.as-slice.result.now c.args.out.now c.write.new.out e c.as-slice.ensures (c.number.result + 1) (let n = c.number.ensures.number in omega arith) w.answer w.after in
+    let d = wrote_not (reads text slots) s m2.number (items l) (spare l) c.as_slice.result.now c.args.out.now c.write.new.out e c.as_slice.ensures (c.number.result + 1) (let n = c.number.ensures.number in omega arith) w.answer w.after in
     let tie = h.extends.lent ∙ list.lent in
     record {
       answer = d.0;
@@ -102,5 +102,5 @@ returns-in-None c =
       slots = slots_hold (reads text slots) _ l slots _ e refl refl (search rules) (reads_sound text slots);
       within = tt;
       loads = tt;
-      reads-back = rendered_texts;
+      reads_back = rendered_texts;
     }

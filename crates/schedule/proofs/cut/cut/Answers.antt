@@ -15,17 +15,17 @@ returns-then-place-bytes c =
       after = take_rest bs c.find-place.result ∙ drop_all c.find-place.result bs (omega arith) ∙ n.1;
     }
 
-pub slice-bounds-result-end-2 : goal.slice-bounds-result-end-2
-slice-bounds-result-end-2 c = omega (arith, until_le (marks c.args.mark) c.args.bytes.now)
+pub slice_bounds-result-end-2 : goal.slice_bounds-result-end-2
+slice_bounds-result-end-2 c = omega (arith, until_le (marks c.args.mark) c.args.bytes.now)
 
-pub overflow-add-result : goal.overflow-add-result
-overflow-add-result c = omega (arith, until_le (marks c.args.mark) c.args.bytes.now)
+pub overflow_add-result : goal.overflow_add-result
+overflow_add-result c = omega (arith, until_le (marks c.args.mark) c.args.bytes.now)
 
-pub slice-bounds-result-count-3 : goal.slice-bounds-result-count-3
-slice-bounds-result-count-3 c = omega (arith, until_le (marks c.args.mark) c.args.bytes.now)
+pub slice_bounds-result-count-3 : goal.slice_bounds-result-count-3
+slice_bounds-result-count-3 c = omega (arith, until_le (marks c.args.mark) c.args.bytes.now)
 
-pub slice-bounds-result-start-3 : goal.slice-bounds-result-start-3
-slice-bounds-result-start-3 c = omega (arith, until_le (marks c.args.mark) c.args.bytes.now)
+pub slice_bounds-result-start-3 : goal.slice_bounds-result-start-3
+slice_bounds-result-start-3 c = omega (arith, until_le (marks c.args.mark) c.args.bytes.now)
 
 pub returns : goal.returns
 returns c =

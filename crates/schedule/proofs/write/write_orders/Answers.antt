@@ -13,8 +13,8 @@ loop-order-init c = (sym (placed_none c.args.out.now c.args.from), omega arith)
 pub loop-order-preserved : goal.loop-order-preserved
 loop-order-preserved c =
     let l = c.loop-order in
-    one_order c.args.out.now c.args.from c.args.orders.now l.order-index _ l.out c.put-at.new.out l.at c.put-at.result c.to-bytes.result
-    c.loop-order-test.true c.to-bytes.ensures.written c.requires l.auto.out l.invariant c.put-at.ensures.after c.put-at.ensures.end
+    one_order c.args.out.now c.args.from c.args.orders.now l.order-index _ l.out c.put-at.new.out l.at c.put-at.result c.to_bytes.result
+    c.loop-order-test.true c.to_bytes.ensures.written c.requires l.auto.out l.invariant c.put-at.ensures.after c.put-at.ensures.end
 
 pub returns : goal.returns
 returns c =

@@ -6,28 +6,28 @@ use Rattle.schedule.proofs.Pieces.{past_lt}
 use Rattle.schedule.proofs.Taking.{one_line, no_line}
 use Rattle.schedule.proofs.lines.Lines.next.Goals as goal
 
-pub returns-then-is-empty : goal.returns-then-is-empty
-returns-then-is-empty c =
+pub returns-then-is_empty : goal.returns-then-is_empty
+returns-then-is_empty c =
     let bs = c.args.self.now.rest.now in
-    let t = c.if-is-empty.ensures in
+    let t = c.if-is_empty.ensures in
     let none : length bs ≡ 0 = grind (arith, nat_tests) in
     let e = no_line bs none in
     record { answer = sym (ap first e); left = e ∙ sym (ap behind e); number = refl }
 
-pub invariant-of-self : goal.invariant-of-self
-invariant-of-self c =
+pub invariant_of-self : goal.invariant_of-self
+invariant_of-self c =
     let bs = c.args.self.now.rest.now in
-    let t = c.if-is-empty.ensures in
+    let t = c.if-is_empty.ensures in
     let some : 0 < length bs = grind (arith, nat_tests) in
     let e = ap length c.cut-parts.ensures.after in
     let l = past_lt (marks LineEnd) bs some in
-    (omega arith, tt)
+    record { fits = omega arith }
 
 pub returns : goal.returns
 returns c =
     let bs = c.args.self.now.rest.now in
     let cut = c.cut-parts.ensures in
-    let t = c.if-is-empty.ensures in
+    let t = c.if-is_empty.ensures in
     let some : 0 < length bs = grind (arith, nat_tests) in
     let e = one_line bs some in
     record { answer = ap Some cut.before ∙ sym (ap first e); left = ap lines_in cut.after ∙ sym (ap behind e); number = refl }

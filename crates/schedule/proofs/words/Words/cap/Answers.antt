@@ -7,7 +7,7 @@ use Rattle.schedule.proofs.words.Words.cap.Goals as goal
 pub returns-in-Some : goal.returns-in-Some
 returns-in-Some c =
     let h = c.in-Some.ensures in
-    record { answer = c.only-cap.ensures ∙ due_some (only (codes "cap")) (words_in c.args.self.now.rest.now) c.in-Some.word h.answer; left = h.left }
+    record { answer = c.only_cap.ensures ∙ due_some (only (codes "cap")) (words_in c.args.self.now.rest.now) c.in-Some.word h.answer; left = h.left }
 
 pub returns-in-None : goal.returns-in-None
 returns-in-None c =

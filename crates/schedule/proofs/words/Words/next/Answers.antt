@@ -6,12 +6,12 @@ use Rattle.schedule.proofs.Pieces.{past_lt}
 use Rattle.schedule.proofs.Taking.{one_word, one_blank, no_word}
 use Rattle.schedule.proofs.words.Words.next.Goals as goal
 
-pub returns-then-not-is-empty : goal.returns-then-not-is-empty
-returns-then-not-is-empty c =
+pub returns-then-not-is_empty : goal.returns-then-not-is_empty
+returns-then-not-is_empty c =
     let bs = c.loop-parts.self.rest.now in
     let cut = c.cut-parts.ensures in
     let t = c.loop-parts-test.ensures in
-    let u = c.if-not-is-empty.ensures in
+    let u = c.if-not-is_empty.ensures in
     let some : 0 < length bs = grind (arith, nat_tests) in
     let word : 0 < length c.cut-parts.result.before.now = grind (arith, nat_tests) in
     let long = ap length cut.before in
@@ -35,7 +35,7 @@ loop-parts-preserved c =
     let bs = c.loop-parts.self.rest.now in
     let cut = c.cut-parts.ensures in
     let t = c.loop-parts-test.ensures in
-    let u = c.if-not-is-empty.ensures in
+    let u = c.if-not-is_empty.ensures in
     let some : 0 < length bs = grind (arith, nat_tests) in
     let none : length c.cut-parts.result.before.now ≡ 0 = grind (arith, nat_tests) in
     let long = ap length cut.before in
