@@ -1,5 +1,6 @@
 // Composes the text schedule on standard input, and writes the order file to standard output.
 #![tactic(auto)]
+
 use orders::order::{Order, OrderKind};
 use schedule::compose::compose;
 use schedule::notice::notice;
@@ -25,7 +26,7 @@ const NO_ORDER: Order = Order {
 };
 
 // Why no file was written; standard error has told what is wrong with a text.
-#[derive(Drop)]
+#[derive(Debug, Drop)]
 enum Failure {
     Memory,
     Device(io::Error),

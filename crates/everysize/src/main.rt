@@ -1,6 +1,7 @@
 // For tests: what `runfile` would print of the order file on standard input, at every size of its output from the
 // least that holds the frame to three bytes more than the whole file needs.
 #![tactic(auto)]
+
 use orders::order::{Order, OrderKind};
 use player::program::run_file;
 use protocol::happening::{Happening, HappeningKind};

@@ -1,5 +1,6 @@
 // Plays the order file on standard input, and prints its run as a graph file with the notices behind it.
 #![tactic(auto)]
+
 use orders::order::{Order, OrderKind};
 use player::program::run_file;
 use protocol::happening::{Happening, HappeningKind};

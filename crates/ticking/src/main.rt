@@ -1,6 +1,7 @@
 // For the benchmark: opens the group that the order file on standard input asks for, without its cap, and closes every tick, one by one, up to the tick
 // of the last order. The orders themselves are not carried out.
 #![tactic(auto)]
+
 use group::Group;
 use orders::load::load;
 use orders::order::{Order, OrderKind};

@@ -1,5 +1,6 @@
 // Plays a schedule from beginning to end and says what it does, in words a planner reads.
 #![tactic(auto)]
+
 mod ends;
 mod intro;
 mod task;
