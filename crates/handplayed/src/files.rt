@@ -8,6 +8,7 @@ use protocol::kind::GroupKind;
 use rehearsal::{Rehearsal, rehearse};
 use slots::SlotList;
 use std::process::Abort;
+use std::test::Fail;
 
 const EMPTY_RUN: &str = r#"<?xml version="1.0" encoding="UTF-8"?>
 <graphml xmlns="http://graphml.graphdrawing.org/xmlns">

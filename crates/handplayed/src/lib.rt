@@ -1,5 +1,6 @@
 // Runs played by hand, with their figures, made again through the public calls.
 #![tactic(auto)]
+
 #[cfg(test)]
 mod files;
 #[cfg(test)]

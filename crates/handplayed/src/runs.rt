@@ -6,6 +6,7 @@ use protocol::happening::Happening;
 use protocol::kind::GroupKind;
 use slots::SlotList;
 use std::process::Abort;
+use std::test::Fail;
 
 const DELIVERIES: [Call; 2] = [Call::Deliver(1, 1), Call::Deliver(1, 2)];
 
