@@ -8,13 +8,12 @@ FILE ?= /dev/null
 .PHONY: demo test clean
 
 demo:
-	@mkdir -p target
 	@echo 'proving and building the walkthrough (some minutes the first time)' >&2
-	@rt check walkthrough >target/demo.log 2>&1 || { cat target/demo.log; exit 1; }
+	@bash tools/build.sh walkthrough
 	@target/bin/walkthrough <$(FILE)
 
 test:
 	@.ci/run
 
 clean:
-	rm -rf target
+	rm -rf target crates/*/out

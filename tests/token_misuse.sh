@@ -5,7 +5,6 @@ root=$(cd "$(dirname "$0")/.." && pwd)
 work=$(mktemp -d)
 trap 'rm -rf "$work"' EXIT
 cp -r "$root/crates.txt" "$root/crates" "$work"
-[ -d "$root/target" ] && cp -r "$root/target" "$work"
 graph=crates/graphml/src/graph.rt
 failed=0
 
@@ -19,7 +18,7 @@ misuse() {
         return
     fi
     local said first
-    said=$(cd "$work" && rt check graphml 2>&1)
+    said=$(cd "$work/crates/graphml" && rt check 2>&1)
     first=$(grep -o -m1 'error\(\[[A-Za-z0-9-]*\]\)*' <<<"$said")
     if [ "$first" = "error[$2]" ]; then
         echo "token misuse refused: $1 ($2)"

@@ -7,6 +7,7 @@ use schedule::notice::notice;
 use std::alloc::AllocError;
 use std::io;
 use std::io::{Read, Write};
+use std::process::ExitCode;
 
 // A longer text is refused.
 const TEXT_BYTES: usize = 1_048_576;
@@ -25,12 +26,11 @@ const NO_ORDER: Order = Order {
     tick: 0,
 };
 
-// Why no file was written; standard error has told what is wrong with a text.
+// Why no file was written, where it is not the text's fault.
 #[derive(Debug, Drop)]
 enum Failure {
     Memory,
     Device(io::Error),
-    Text,
 }
 
 impl From<AllocError> for Failure {
@@ -45,7 +45,8 @@ impl From<io::Error> for Failure {
     }
 }
 
-fn main(rt: HostRuntime) -> Result<(), Failure> {
+// Standard error tells what is wrong with a text, and the status is 1 then.
+fn main(rt: HostRuntime) -> Result<ExitCode, Failure> {
     let heap = rt.alloc();
     let mut text = Vec::new(heap);
     rt.stdin()
@@ -54,18 +55,18 @@ fn main(rt: HostRuntime) -> Result<(), Failure> {
     if text.len() > TEXT_BYTES {
         rt.stderr()
             .write_all(b"the text has more than 1,048,576 bytes\n")?;
-        return Err(Failure::Text);
+        return Ok(ExitCode::FAILURE);
     }
     let mut orders = vec![in heap; NO_ORDER; ORDER_SLOTS]?;
     let mut file = vec![in heap; 0u8; FILE_BYTES]?;
     match compose(text.as_slice(), orders.as_mut_slice(), file.as_mut_slice()) {
         Ok(size) => {
             rt.stdout().write_all(&file.as_slice()[..size])?;
-            Ok(())
+            Ok(ExitCode::SUCCESS)
         }
         Err(complaint) => {
             rt.stderr().write_all(notice(complaint).as_slice())?;
-            Err(Failure::Text)
+            Ok(ExitCode::FAILURE)
         }
     }
 }
