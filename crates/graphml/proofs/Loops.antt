@@ -1,5 +1,5 @@
 -- What is left to write gives what was to be written.
-use Rattle.std.proofs.Common.{◌≡◌, ℕ, ◌-◌, true, false, sym, refl, ap, ◌∙◌, subst, arith, le-leb}
+use Rattle.std.proofs.Common.{◌≡◌, ℕ, true, false, sym, refl, ap, ◌∙◌, subst, arith, le-leb}
 use Rattle.graphml.specs.Elements.{Tag, Forest, none, element}
 use Rattle.graphml.specs.Cut.{all_fits}
 use Rattle.graphml.specs.State.{State, Sound, drawn}

@@ -1,5 +1,5 @@
 -- An element that is one line, begun or not.
-use Rattle.std.proofs.Common.{◌≡◌, ℕ, ◌+◌, ◌-◌, ◌<◌, ◌≤◌, true, false, List, [], length, sym, ap, ◌∙◌, subst, arith, le-leb}
+use Rattle.std.proofs.Common.{◌≡◌, ℕ, ◌+◌, ◌<◌, ◌≤◌, true, false, List, [], length, sym, ap, ◌∙◌, subst, arith, le-leb}
 use Rattle.graphml.specs.Elements.{Tag, opening, closing, Forest, one, none}
 use Rattle.graphml.specs.Cut.{all_fits}
 use Rattle.graphml.specs.Counts.{is_happening, is_edge}

@@ -1,5 +1,5 @@
 -- What is set aside stays so.
-use Rattle.std.proofs.Common.{◌≡◌, ℕ, ◌+◌, ◌-◌, true, List, length, sym, ap, ◌∙◌, subst, arith, leb-true}
+use Rattle.std.proofs.Common.{◌≡◌, ℕ, ◌+◌, true, List, length, sym, ap, ◌∙◌, subst, arith, leb-true}
 use Rattle.graphml.specs.State.{State, Sound, wrote, opened, has_room}
 use Rattle.text.proofs.Placed.{length_placed}
 

@@ -1,10 +1,9 @@
 -- What an append leaves in a log that is ready for it.
-use Rattle.std.proofs.Common.{◌≡◌, ℕ, ◌+◌, ◌<◌, ◌≤◌, List, [], ◌∷◌, ◌++◌, length, Result, sym, ap, ◌∙◌, subst, arith, MatchResult}
+use Rattle.std.proofs.Common.{◌≡◌, ℕ, ◌+◌, ◌<◌, [], ◌∷◌, length, Result, sym, ◌∙◌, subst, arith, MatchResult}
 use Rattle.std.proofs.lemmas.List.{length-drop}
 use Rattle.slots.specs.declared.SlotList.{SlotList}
 use Rattle.slots.specs.declared.refusal.Refusal.{Refusal}
-use Rattle.slots.specs.Slots.{items, spare, capacity, last_time, append_answer, Appended, Extends}
-use Rattle.slots.proofs.Growing.{items_length}
+use Rattle.slots.specs.Slots.{items, spare, last_time, append_answer, Appended, Extends}
 use Rattle.slots.proofs.Answering.{says_ok}
 use Rattle.protocol.specs.declared.happening.Happening.{Happening}
 use Rattle.protocol.specs.Runs.{tick_of}

@@ -1,5 +1,5 @@
 -- Each call keeps a table sane.
-use Rattle.std.proofs.Common.{◌≡◌, ℕ, zero, suc, ◌+◌, ◌-◌, ◌<◌, ◌≤◌, Bool, true, false, cond, eqb, ltb, leb, List, [], length, get_or, replicate, Some, None, Option, sym, refl, ap, subst, arith}
+use Rattle.std.proofs.Common.{◌≡◌, ℕ, zero, suc, ◌+◌, ◌-◌, ◌<◌, ◌≤◌, Bool, true, false, cond, eqb, leb, [], length, get_or, replicate, Some, None, Option, sym, refl, ap, subst, arith}
 use Rattle.std.proofs.lemmas.Bool.Decides.{nat_tests}
 use Rattle.pace.specs.Meaning.{Meaning, Lawful}
 use Rattle.protocol.specs.declared.happening.Happening.{Happening}
@@ -17,8 +17,8 @@ use Rattle.protocol.specs.declared.table.Table.{Table}
 use Rattle.protocol.specs.declared.kind.GroupKind.{GroupKind}
 use Rattle.protocol.specs.declared.kind.GroupKind.TheVariants.{Closed, Expanding, Dynamic}
 use Rattle.protocol.specs.Patience.{trip, patience}
-use Rattle.protocol.specs.Party.{nobody, fresh, hears_as, answers_as, arrives, heeds, off_leg, off_out, off_reply, off_entry, on_leg, missed, missed_as, sends, sends_as, times, times_as, times_live, calls_in, lost}
-use Rattle.protocol.specs.Group.{Play, the, with_party, with_parties, delivered_as, lost_as, crashed, counted, shortest, shorter, sent, send_log, started, settled_as, settled, any, rounded_as, rounded, round_ends, timed, timer_log, later, opened}
+use Rattle.protocol.specs.Party.{nobody, fresh, hears_as, answers_as, arrives, heeds, off_leg, off_out, off_reply, off_entry, missed, sends_as, times_as, times_live, calls_in, lost}
+use Rattle.protocol.specs.Group.{Play, the, with_party, delivered_as, lost_as, crashed, counted, shorter, settled_as, any, rounded_as, rounded, round_ends, timed, later}
 use Rattle.slots.specs.declared.SlotList.{SlotList}
 use Rattle.group.specs.Sane.{Sane}
 use Rattle.protocol.specs.Views.{play}

@@ -9,7 +9,6 @@ use Rattle.protocol.specs.declared.table.Table.{Table}
 use Rattle.protocol.specs.declared.plan.Plan.{Plan}
 use Rattle.protocol.specs.declared.call.Call.{Call}
 use Rattle.protocol.specs.declared.call.Call.TheVariants.{Tick, Deliver, Lose, Crash, Join, Leave}
-use Rattle.protocol.specs.declared.call.Step.{Step}
 use Rattle.protocol.specs.declared.refusal.Refusal.{Refusal}
 use Rattle.protocol.specs.declared.refusal.Refusal.TheVariants.{NoSuchParty, KindForbids, WrongState, NoBeat, ClockAtEnd, BeatDue, NoSlot, LogDiffers}
 use Rattle.protocol.specs.Answers.{refusal_number, told}
@@ -17,7 +16,7 @@ use Rattle.protocol.specs.Party.{due, on_leg}
 use Rattle.protocol.specs.Group.{Play, the, any, opened}
 use Rattle.protocol.specs.Runs.{asks, is_there, is_own_log, log_asks, is_party, may_join, may_leave, is_outside, is_in, can_crash, number, perform, done, unless}
 use Rattle.protocol.specs.Making.{Making, goes_on, makes}
-use Rattle.protocol.specs.Rehearsals.{Rehearsed, call_of}
+use Rattle.protocol.specs.Rehearsals.{call_of}
 use Rattle.protocol.proofs.Rehearsal.{then, keeps}
 use Rattle.protocol.specs.Views.{play}
 use Rattle.orders.specs.declared.order.Order.{Order}

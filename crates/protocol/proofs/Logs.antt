@@ -24,7 +24,7 @@ use Rattle.protocol.specs.Patience.{trip, patience}
 use Rattle.protocol.specs.Walk.{folds, walks}
 use Rattle.protocol.specs.Party.{nobody, fresh, on_leg, off_leg, off_out, off_reply, off_entry, arrives, hears_as, heeds, joined, missed, sends, sends_as, listed, lost, times, times_as, times_live, calls_in, live}
 use Rattle.protocol.specs.Group.{Play, the, happens, tells_of, links, sender, answer_log, runs, delivered_as, lost_as, crashed, joins, leaves, any, shortest, counted, send_log, sent, stopped, started, settled_as, rounded_as, rounded, round_ends, live_log, timer_log, timed, later, opened}
-use Rattle.protocol.specs.Runs.{number, done, unless, perform, played, asks, is_party}
+use Rattle.protocol.specs.Runs.{number, done, unless, perform, played}
 use Rattle.protocol.specs.Beats.{is_arrival, is_loss, settles, nothing, happening_at, SentBy, OtherEnd, Linked, LossesLinked, SettledOnce, Unsettled, Edge, edges, beat_edge, delivery, deliveries, PutBy}
 use Rattle.protocol.specs.Order.{InOrder}
 use Rattle.protocol.proofs.Onward.{Onward, stay, further, told, arrived, edges_same, sent_push, keeps_push, every_push, order_push, linked_push, losses_push, onward_linked, onward_losses, folds_onward, folds_between}

@@ -22,7 +22,6 @@ use Rattle.protocol.specs.declared.call.Call.TheVariants.{Tick, Deliver, Lose, C
 use Rattle.pace.specs.Meaning.{Meaning, Lawful}
 use Rattle.protocol.specs.Patience.{trip, patience}
 use Rattle.protocol.specs.Party.{nobody, fresh, on_leg, due, lost, missed, sends}
-use Rattle.protocol.specs.Group
 use Rattle.protocol.specs.Group.{Play, the, with_parties, with_root, delivered, delivered_as, loses, lost_as, crashed, root_crashed, joins, leaves, any, shorter, shortest, counted, settled_as, rounded_as, rounded, round_ends, runs, timed, later, ticked, opened}
 use Rattle.protocol.specs.Runs.{number, done, unless, perform, played, answered, unharmed, spares, asks, may_join, may_leave, is_outside, is_in, is_party, is_there, log_asks}
 use Rattle.protocol.specs.Beats.{FreeFor, BeatsTakeFreeLegs}

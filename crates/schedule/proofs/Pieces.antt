@@ -1,7 +1,7 @@
 -- Cutting bytes in two.
 use Rattle.std.proofs.Common.{◌≡◌, ℕ, suc, ◌+◌, ◌<◌, ◌≤◌, Bool, true, false, cond, List, [], ◌∷◌, length, get_or, take, drop, sym, refl, ap, ◌∙◌, arith}
 use Rattle.std.proofs.lemmas.List.{drop_more, drop_all, take_all}
-use Rattle.schedule.specs.Cuts.{until, past, onto, pieces, filled}
+use Rattle.schedule.specs.Cuts.{until, past, onto, pieces}
 
 module _ (m : ℕ → Bool) where
   -- a search from place i on: a mark there ends it

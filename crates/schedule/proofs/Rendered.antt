@@ -1,15 +1,15 @@
 -- A text that was rendered reads as what it was rendered from.
-use Rattle.std.proofs.Common.{◌≡◌, ℕ, ◌+◌, ◌^◌, ◌<◌, ◌≤◌, Bool, true, false, cond, ◌&&◌, ltb, leb, List, [], ◌∷◌, ◌++◌, map, length, drop, Some, Ok, Err, codes, decimal, Result, sym, refl, ap, ◌∙◌, subst, append_assoc, append-nil, add-zero, one-add, arith, rules}
+use Rattle.std.proofs.Common.{◌≡◌, ℕ, ◌+◌, ◌^◌, ◌<◌, ◌≤◌, Bool, true, false, cond, ◌&&◌, ltb, leb, List, [], ◌∷◌, ◌++◌, map, length, drop, Some, Ok, Err, codes, decimal, sym, refl, ap, ◌∙◌, append_assoc, append-nil, add-zero, one-add, arith, rules}
 use Rattle.std.specs.Char.{is_ascii_digit}
 use Rattle.std.specs.List.{flat_map}
 use Rattle.std.specs.Str.{all_ascii_digits}
 use Rattle.std.proofs.lemmas.Fmt.{digits_decimal, digits_value-decimal, decimal_nonempty}
 use Rattle.std.proofs.lemmas.List.{drop-drop, length-append, length-drop}
 use Rattle.std.proofs.lemmas.Str.Parse.{IsNumeralModel, numerals_by_fold}
-use Rattle.std.proofs.lemmas.Bool.{and_parts, and_from, le-leb, ltb-true, lt-ltb}
+use Rattle.std.proofs.lemmas.Bool.{and_parts, and_from, le-leb, ltb-true}
 use Rattle.std.proofs.lemmas.Bool.Decides.{nat_tests}
 use Rattle.text.specs.Numeral.{read_on}
-use Rattle.slots.specs.Slots.{append_answer, last_time}
+use Rattle.slots.specs.Slots.{last_time}
 use Rattle.slots.proofs.Answering.{says_ok}
 use Rattle.slots.proofs.Times.{last_of_appended}
 use Rattle.protocol.specs.declared.kind.GroupKind.{GroupKind}
@@ -21,14 +21,13 @@ use Rattle.orders.specs.declared.start.PaceKind.{PaceKind}
 use Rattle.orders.specs.declared.start.PaceKind.TheVariants.{Halving, TwoPhase}
 use Rattle.orders.specs.declared.start.Start.{Start}
 use Rattle.orders.specs.Loading.{tick_of, StartFits, OrderFits, InOrder}
-use Rattle.schedule.specs.declared.complaint.Cause.{Cause}
 use Rattle.schedule.specs.declared.complaint.Cause.TheVariants.{NotANumber, NumberTooLarge}
 use Rattle.schedule.specs.declared.cut.Mark.TheVariants.{LineEnd, Comment, Blank}
 use Rattle.schedule.specs.Cuts.{marks, until, past, lines_in, words_in, line_words, behind}
 use Rattle.schedule.specs.Words.{named, number, group_word, pace_word, order_word, only}
 use Rattle.schedule.specs.Records.{due, due_if, behind_if, over, and_then, has_party, has_leg, start_behind, order_behind, start_in, order_in}
 use Rattle.schedule.specs.Rendering.{group_name, pace_name, order_name, start_words, named_if, order_words, spaced, text_line, rendered, Named, RenderedTextsRead}
-use Rattle.schedule.specs.Texts.{Reading, ended, appended, order_met, orders_from, start_met, lines_from, reads}
+use Rattle.schedule.specs.Texts.{ended, appended, order_met, orders_from, start_met, lines_from}
 use Rattle.schedule.proofs.Stages.{start_line, parties_read, pace_read, tmin_read, tmax_read, cap_read, number_read, start_read, order_line, kind_read, party_read, leg_read, order_read}
 use Rattle.schedule.proofs.Taking.{one_word, no_word, one_line, no_line}
 

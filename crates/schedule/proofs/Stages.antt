@@ -1,5 +1,5 @@
 -- Reading a record word by word: what is left to be read, after each of its words.
-use Rattle.std.proofs.Common.{◌≡◌, ℕ, Bool, List, [], ◌∷◌, Some, None, Ok, Err, codes, Option, Result, sym, refl, ap, ◌∙◌, arith}
+use Rattle.std.proofs.Common.{◌≡◌, ℕ, Bool, List, [], ◌∷◌, Some, None, Ok, Err, codes, Result, sym, refl, ap, ◌∙◌, arith}
 use Rattle.protocol.specs.declared.kind.GroupKind.{GroupKind}
 use Rattle.orders.specs.declared.order.Order.{Order}
 use Rattle.orders.specs.declared.order.OrderKind.{OrderKind}

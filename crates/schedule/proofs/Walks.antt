@@ -1,5 +1,5 @@
 -- Reading a text, one line more.
-use Rattle.std.proofs.Common.{◌≡◌, ℕ, ◌+◌, List, [], ◌∷◌, ◌++◌, Some, None, Ok, Err, Option, Result, sym, refl, ap, ◌∙◌, arith}
+use Rattle.std.proofs.Common.{◌≡◌, ℕ, ◌+◌, List, [], ◌∷◌, Some, None, Ok, Err, Option, Result, sym, refl, ap, arith}
 use Rattle.orders.specs.declared.order.Order.{Order}
 use Rattle.orders.specs.declared.start.Start.{Start}
 use Rattle.schedule.specs.declared.complaint.Cause.{Cause}

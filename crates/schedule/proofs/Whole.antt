@@ -1,5 +1,5 @@
 -- A text, from its first line to the file.
-use Rattle.std.proofs.Common.{◌≡◌, ℕ, ◌+◌, ◌≤◌, Bool, true, false, cond, leb, List, [], ◌∷◌, ◌++◌, length, take, drop, Some, None, Ok, Err, Option, Result, sym, refl, ap, ◌∙◌, subst, arith}
+use Rattle.std.proofs.Common.{◌≡◌, ℕ, ◌+◌, ◌≤◌, Bool, true, false, cond, leb, List, [], ◌++◌, length, take, drop, Some, None, Ok, Err, Result, sym, refl, ap, ◌∙◌, subst, arith}
 use Rattle.std.proofs.lemmas.List.{take_at, length-append}
 use Rattle.slots.specs.declared.SlotList.{SlotList}
 use Rattle.slots.specs.Slots.{items, spare}
@@ -13,7 +13,7 @@ use Rattle.schedule.specs.declared.complaint.Cause.TheVariants.{NoRoom}
 use Rattle.schedule.specs.declared.complaint.Complaint.{Complaint}
 use Rattle.schedule.specs.Cuts.{lines_in}
 use Rattle.schedule.specs.Texts.{Reading, ended, orders_from, lines_from, reads}
-use Rattle.schedule.specs.Steps.{past_start, past_orders}
+use Rattle.schedule.specs.Steps.{past_start}
 use Rattle.schedule.specs.Composing.{written, composed, output, LoadsAs}
 use Rattle.schedule.proofs.Fitting.{Sound, sound}
 

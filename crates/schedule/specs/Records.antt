@@ -1,5 +1,5 @@
 -- What the words of a line read as: a start or an order, or the first word that is wrong.
-use Rattle.std.specs.Prelude.{ℕ, Bool, true, false, cond, List, [], ◌∷◌, Some, None, Ok, Err, codes, Option, Result}
+use Rattle.std.specs.Prelude.{ℕ, Bool, true, false, List, [], ◌∷◌, Some, None, Ok, Err, codes, Option, Result}
 use Rattle.protocol.specs.declared.kind.GroupKind.{GroupKind}
 use Rattle.orders.specs.declared.order.Order.{Order}
 use Rattle.orders.specs.declared.order.OrderKind.{OrderKind}

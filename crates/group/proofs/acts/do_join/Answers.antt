@@ -1,4 +1,4 @@
-use Rattle.std.proofs.Common.{◌+◌, arith, rules}
+use Rattle.std.proofs.Common.{arith, rules}
 use Rattle.slots.proofs.Growing.{extends_trans}
 use Rattle.group.proofs.Appends.{still-ready}
 use Rattle.group.proofs.acts.do_join.Goals as goal

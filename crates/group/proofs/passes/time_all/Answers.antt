@@ -1,5 +1,4 @@
 use Rattle.std.proofs.Common.{arith}
-use Rattle.group.specs.Passes.{time_in, time_log_in}
 use Rattle.group.proofs.Turns.{pass_none, pass-turn, pass_ready}
 use Rattle.group.proofs.passes.time_all.Goals as goal
 

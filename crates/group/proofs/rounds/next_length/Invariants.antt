@@ -1,4 +1,4 @@
-use Rattle.std.proofs.Common.{◌≡◌, ◌≤◌}
+use Rattle.std.proofs.Common.{◌≡◌}
 use Rattle.protocol.specs.Group.{shortest}
 use Rattle.group.proofs.rounds.next_length.Given as goal
 

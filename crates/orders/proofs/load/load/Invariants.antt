@@ -1,4 +1,4 @@
-use Rattle.std.proofs.Common.{◌≡◌, ◌-◌, length}
+use Rattle.std.proofs.Common.{◌-◌, length}
 use Rattle.std.specs.List.Sorted.{IsNonDecreasingBy}
 use Rattle.slots.specs.Slots.{items, spare, Extends}
 use Rattle.orders.specs.Loading.{loaded, tick_of}

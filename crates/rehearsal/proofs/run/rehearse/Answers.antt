@@ -1,4 +1,4 @@
-use Rattle.std.proofs.Common.{◌≡◌, ℕ, ◌+◌, List, length, get_or, take, drop, sym, refl, ap, ◌∙◌, subst, subst₂, arith, rules}
+use Rattle.std.proofs.Common.{◌≡◌, ℕ, List, length, get_or, take, drop, sym, refl, ap, ◌∙◌, subst, subst₂, arith, rules}
 use mathlib.Core.Path.{subst₃}
 use Rattle.std.proofs.lemmas.List.{take_more_set, take_all}
 use Rattle.slots.specs.Slots.{capacity}

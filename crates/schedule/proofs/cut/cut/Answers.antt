@@ -1,4 +1,4 @@
-use Rattle.std.proofs.Common.{◌≡◌, suc, [], take, drop, sym, ap, ◌∙◌, add-one, arith}
+use Rattle.std.proofs.Common.{suc, take, drop, ap, ◌∙◌, add-one, arith}
 use native.Mathlib.Nat.{sub-zero}
 use Rattle.std.proofs.lemmas.List.{take_rest, drop_all}
 use Rattle.schedule.specs.Cuts.{marks}

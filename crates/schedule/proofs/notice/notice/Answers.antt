@@ -1,4 +1,4 @@
-use Rattle.std.proofs.Common.{sym, ap, ◌∙◌, arith, length-append}
+use Rattle.std.proofs.Common.{ap, ◌∙◌, arith, length-append}
 use Rattle.text.specs.Lines.{text, added}
 use Rattle.text.proofs.Lines.{onto}
 use Rattle.schedule.specs.Notices.{cause_words, notice_line}

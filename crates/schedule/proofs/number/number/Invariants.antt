@@ -1,4 +1,4 @@
-use Rattle.std.proofs.Common.{◌≡◌, ◌+◌, ◌≤◌, length, drop}
+use Rattle.std.proofs.Common.{◌≡◌, ◌+◌, ◌≤◌, drop}
 use Rattle.schedule.specs.Words.{number}
 use Rattle.schedule.proofs.Numbers.{counted}
 use Rattle.schedule.proofs.number.number.Given as goal

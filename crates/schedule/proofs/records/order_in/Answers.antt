@@ -1,6 +1,6 @@
 use Rattle.std.proofs.Common.{Some, Ok, Err, sym, ap, ◌∙◌}
 use Rattle.std.proofs.lemmas.Result.{err_from_is_err_and}
-use Rattle.schedule.specs.Cuts.{words_in, line_words}
+use Rattle.schedule.specs.Cuts.{words_in}
 use Rattle.schedule.specs.Records.{and_then, order_in, order_behind}
 use Rattle.schedule.proofs.Stages.{ends, order_line, no_order}
 use Rattle.schedule.proofs.records.order_in.Goals as goal

@@ -1,6 +1,5 @@
-use Rattle.std.proofs.Common.{◌≡◌, ◌+◌, ◌*◌, ◌≤◌, true, false, cond, leb, length, Some, None, sym, ap, ◌∙◌, arith}
+use Rattle.std.proofs.Common.{◌≡◌, ◌+◌, ◌*◌, true, false, cond, leb, length, Some, None, sym, ap, ◌∙◌}
 use Rattle.std.proofs.lemmas.Bool.{leb-true}
-use Rattle.text.proofs.Placed.{length_placed}
 use Rattle.orders.specs.Writing.{bytes_of_file}
 use Rattle.schedule.specs.Composing.{written}
 use Rattle.schedule.proofs.Lengths.{file_long}

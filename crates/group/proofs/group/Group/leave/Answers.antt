@@ -1,5 +1,4 @@
 use Rattle.std.proofs.Common.{◌-◌}
-use Rattle.protocol.specs.Views.{play}
 use Rattle.group.proofs.Safe.{sane_at, sane_party}
 use Rattle.group.proofs.group.Group.leave.Goals as goal
 

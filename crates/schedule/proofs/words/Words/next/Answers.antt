@@ -1,7 +1,7 @@
 use Rattle.std.proofs.Common.{◌≡◌, ◌<◌, length, Some, sym, ap, ◌∙◌, arith}
 use Rattle.std.proofs.lemmas.Bool.Decides.{nat_tests}
 use Rattle.schedule.specs.declared.cut.Mark.TheVariants.{Blank}
-use Rattle.schedule.specs.Cuts.{marks, until, words_in, first, behind}
+use Rattle.schedule.specs.Cuts.{marks, words_in, first, behind}
 use Rattle.schedule.proofs.Pieces.{past_lt}
 use Rattle.schedule.proofs.Taking.{one_word, one_blank, no_word}
 use Rattle.schedule.proofs.words.Words.next.Goals as goal
