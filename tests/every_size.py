@@ -1,7 +1,7 @@
 #!/usr/bin/env python3
 """Holds the exported file to the model and to an XML reader at every size of the output.
 
-From the repository's root, once target/bin/ has the programs:
+From the repository's root, once tools/build.sh has built the programs:
 
     python3 tests/every_size.py [COUNT [SEED]]
 

@@ -1,7 +1,7 @@
 #!/usr/bin/env python3
 """Runs the built programs and holds what they print to the model and to an XML reader.
 
-From the repository's root, once target/bin/ has the programs:
+From the repository's root, once tools/build.sh has built the programs:
 
     python3 tests/run_programs.py [COUNT [SEED]]
 

@@ -16,7 +16,7 @@ NAME = r"[A-Za-z_][A-Za-z0-9_']*(?:-[A-Za-z0-9_']+)+"
 PART = r"[A-Za-z0-9_'*≡≤-]"
 TOKEN = re.compile(rf"(?<!{PART})(\.?)({NAME})(?!{PART})")
 # a signature, a record's field, a constructor: `pub a-b c : ..`
-SIGNED = re.compile(rf"^\s*(?:pub |abbrev |unfoldable |mutual )*((?:{NAME})(?:\s+\S+)*?)\s+:\s(.*)$")
+SIGNED = re.compile(rf"^\s*(?:pub |abbrev |unfoldable |mutual )*((?:{NAME})(?:\s+\S+)*?)\s+:(?:\s(.*))?$")
 RECORD = re.compile(rf"^\s*(?:pub |abbrev )*(?:record|data)\s+({NAME})")
 
 
@@ -60,7 +60,7 @@ def own_names(files):
             if m:
                 tops.add(m.group(1))
             m = SIGNED.match(line)
-            if m and not m.group(2).startswith("goal."):
+            if m and not (m.group(2) or "").startswith("goal."):
                 for name in m.group(1).split():
                     if re.fullmatch(NAME, name):
                         tops.add(name)
@@ -71,6 +71,9 @@ def own_names(files):
                 tops.update(w for w in m.group(1).split() if re.fullmatch(NAME, w))
             for m in re.finditer(r"λ\s+([^.(]*)\.", line):
                 tops.update(w for w in m.group(1).split() if re.fullmatch(NAME, w))
+            m = re.match(r"^\s*[a-z][\w'-]*((?:\s+[\w'-]+|\s+\([^()=]*\)|\s+\[\])+)\s+=(?:\s|$)", line)
+            if m:
+                tops.update(w for w in re.split(r"[\s()\[\]]+", m.group(1)) if re.fullmatch(NAME, w))
             for m in re.finditer(rf"\bas\s+({NAME})", line):
                 tops.add(m.group(1))
     return tops, fields

@@ -64,7 +64,7 @@ def read_list(path):
 
 def check(work, crate):
     """The status and the words of a check that takes over what was proved before."""
-    done = subprocess.run(["rt", "dev", crate], cwd=work, capture_output=True, text=True, check=False)
+    done = subprocess.run(["rt", "check"], cwd=work / "crates" / crate, capture_output=True, text=True, check=False)
     return done.returncode, done.stdout + done.stderr
 
 
@@ -81,18 +81,16 @@ def refuser(status, said, crate):
     return "proof: " + ", ".join(functions[:3] + [".."] * (len(functions) > 3) + first)
 
 
-def copy(source, work, crates):
-    """The sources with what was proved of them: all that a check of these crates takes over."""
+def copy(source, work):
+    """The sources alone: a check begins with what was proved of the same text anywhere on this machine."""
     shutil.copy(source / "crates.txt", work)
-    shutil.copytree(source / "crates", work / "crates")
-    for part in ["rlib", "stamp"] + [f"inc/{crate}" for crate in crates]:
-        shutil.copytree(source / "target" / part, work / "target" / part)
+    shutil.copytree(source / "crates", work / "crates", ignore=shutil.ignore_patterns("out"))
 
 
 def try_bug(source, bug):
     with tempfile.TemporaryDirectory(prefix="planted-") as folder:
         work = pathlib.Path(folder)
-        copy(source, work, [bug.crate])
+        copy(source, work)
         bug.plant(work / "crates" / bug.crate)
         status, said = check(work, bug.crate)
         return refuser(status, said, bug.crate)
@@ -121,7 +119,7 @@ def main(words):
     survived = 0
     with tempfile.TemporaryDirectory(prefix="planted-") as folder, concurrent.futures.ThreadPoolExecutor(WORKERS) as pool:
         source = pathlib.Path(folder)       # a copy, so that work on the repository can go on
-        copy(TOP, source, {bug.crate for bug in bugs})
+        copy(TOP, source)
         for bug, refused_by in zip(bugs, pool.map(lambda bug: try_bug(source, bug), bugs)):
             print(f"{bug.crate}: {bug.name}: {refused_by}", flush=True)
             rows[bug.crate, bug.name] = row(bug, refused_by)

@@ -11,7 +11,7 @@ use Rattle.protocol.specs.Patience.{patience}
 use Rattle.protocol.specs.Party.{nobody}
 use Rattle.protocol.specs.Group.{any, round_ends}
 use Rattle.protocol.specs.Quiet.{clocked, timer_rests, Rests, Quiet}
-use Rattle.protocol.proofs.Lifts.{none-of-any}
+use Rattle.protocol.proofs.Lifts.{none_of_any}
 use Rattle.protocol.proofs.Numbers.{least_patience}
 use Rattle.dues.specs.Patience.{silent_for, DoesFor}
 
@@ -28,7 +28,7 @@ least_does m sound plan t d n e en none =
       most = most;
       alike = λ k h.
           let p = get_or t.parties k nobody in
-          let f = none-of-any (silent_for d t.clock) 1 n t.parties nobody refl none k (omega arith) in
+          let f = none_of_any (silent_for d t.clock) 1 n t.parties nobody refl none k (omega arith) in
           f ∙ sym (not_for_longer p.own.standing d (patience m plan.kind) t.clock p refl most f);
     }
 

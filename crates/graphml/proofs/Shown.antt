@@ -43,7 +43,7 @@ shows m plan room steps s out out' r p same ran order answer bytes nested cut ed
           bytes ∙ ap (λ (q : Plan). export_bytes s q.n out) same ∙ ap (λ (b : Bool). cond b (written s.log plan.n out) out) mine;
       closed_inner_before_outer = nested;
       cut_at_the_first_that_does_not_fit = subst (λ (q : Plan). IfOk r (λ x. x.whole ≡ false → EndsAt (length out - 275) (body s.log q.n))) same cut;
-      edges-are-the-deliveries =
+      edges_are_the_deliveries =
           follow r (λ _. edges_among (tags (part s.log plan.n (length out)))) ran
           (subst (λ (q : Plan). IfOk r (λ x. x.whole ≡ true → edges_among (tags (part s.log q.n (length out))) ≡ edges 0 s.log)) same edged);
     }

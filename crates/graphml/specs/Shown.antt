@@ -24,5 +24,5 @@ pub record ShowsTheRun (m : Meaning) (plan : Plan) (room : ℕ) (steps : List St
   -- a cut file has the first elements of all, and the next did not fit
   pub cut_at_the_first_that_does_not_fit : IfOk answer (λ x. x.whole ≡ false → EndsAt (length out - 275) (body s.log plan.n))
   -- a whole file has one edge for each delivery not refused, in their order, and no other
-  pub edges-are-the-deliveries :
+  pub edges_are_the_deliveries :
       IfOk answer (λ x. x.whole ≡ true → edges_among (tags (part s.log plan.n (length out))) ≡ deliveries m plan room (map call_of steps) (opened m plan))

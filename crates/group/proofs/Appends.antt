@@ -18,8 +18,8 @@ accepted l l' x r ready e after =
     subst (λ v. MatchResult v (λ _. Appended l l' (x ∷ [])) (λ _. l' ≡ l)) (e ∙ sym (says_ok tick_of (items l) (spare l) x free ready.current)) after
 
 -- one slot less is free, and the log is ready for more of the same tick
-pub still-ready :
+pub still_ready :
     (l l' : SlotList Happening) (tick wanted : ℕ) → Ready l tick (wanted + 1) → Extends l l' → l'.len ≡ l.len + 1 →
     last_time tick_of (items l') ≡ tick → Ready l' tick wanted
-still-ready l l' tick wanted ready grew len last =
+still_ready l l' tick wanted ready grew len last =
     record { room = omega (arith, ready.room, grew.long); current = omega arith }

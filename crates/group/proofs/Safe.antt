@@ -24,7 +24,7 @@ use Rattle.group.specs.Sane.{Sane}
 use Rattle.protocol.specs.Views.{play}
 use Rattle.protocol.proofs.Clock.{rounded_clock}
 use Rattle.protocol.proofs.Lifts.{set_all, folds_falls}
-use Rattle.protocol.proofs.Walks.{walks-all, replicate_all}
+use Rattle.protocol.proofs.Walks.{walks_all, replicate_all}
 
 abbrev Low : ℕ → Party → Type 0
 Low m p = p.note.misses ≤ m
@@ -107,7 +107,7 @@ module _ (m : Meaning) (sound : Lawful m) (n : ℕ) where
         h.0,
         h.0,
         omega (arith, sound.high, folds_falls (shorter m.waits) shorter_falls 1 n m.tmax t.parties),
-        walks-all _ _ (Low (t.clock + 1)) (Low (t.clock + 1)) (λ j log p k. low_sends p.note.roll (t.clock + trip m) (length log) _ p k) (λ p k. k) 1 n s.log t.parties nobody h.3,
+        walks_all _ _ (Low (t.clock + 1)) (Low (t.clock + 1)) (λ j log p k. low_sends p.note.roll (t.clock + trip m) (length log) _ p k) (λ p k. k) 1 n s.log t.parties nobody h.3,
       )
 
   amid_rounded : (b : Bool) (s : Play) → Sane s.table → Amid (rounded_as b m n s).table
@@ -117,7 +117,7 @@ module _ (m : Meaning) (sound : Lawful m) (n : ℕ) where
         h.0,
         h.1,
         h.2,
-        walks-all _ _ (Low t.clock) (Low (t.clock + 1)) (λ j u p k. low_missed _ _ t.clock p refl refl k) (λ p k. omega arith) 1 n 0 t.parties nobody h.3,
+        walks_all _ _ (Low t.clock) (Low (t.clock + 1)) (λ j u p k. low_missed _ _ t.clock p refl refl k) (λ p k. omega arith) 1 n 0 t.parties nobody h.3,
       )
   amid_rounded false s h = (h.0, h.1, h.2, λ k. omega (arith, h.3 k))
 
@@ -127,7 +127,7 @@ module _ (m : Meaning) (sound : Lawful m) (n : ℕ) where
         omega arith,
         h.1,
         h.2,
-        walks-all _ _ (Low (t.clock + 1)) (Low (t.clock + 1)) (λ j log p k. low_times p.own.standing t.clock d tmin (t.clock + trip) (length log) _ p k) (λ p k. k) 1 n s.log t.parties nobody h.3,
+        walks_all _ _ (Low (t.clock + 1)) (Low (t.clock + 1)) (λ j log p k. low_times p.own.standing t.clock d tmin (t.clock + trip) (length log) _ p k) (λ p k. k) 1 n s.log t.parties nobody h.3,
       )
 
   pub sane_ticked : (kind : GroupKind) (s : Play) → s.table.clock < 4000000000 → Sane s.table → Sane (later (timed (patience m kind) m.tmin (trip m) n (rounded m n s))).table

@@ -13,7 +13,7 @@ use Rattle.protocol.specs.Patience.{trip, patience}
 use Rattle.protocol.specs.Party.{nobody, live, calls_in, times, times_as, times_live}
 use Rattle.protocol.specs.Group.{Play, amid, timer_log, live_log, rounded, timed, later, ticked}
 use Rattle.protocol.specs.Views.{play}
-use Rattle.protocol.proofs.Walks.{walks-alike}
+use Rattle.protocol.proofs.Walks.{walks_alike}
 use Rattle.dues.specs.Patience.{silent_for, DoesFor}
 use Rattle.group.specs.Views.{Acted}
 use Rattle.group.specs.Passes.{Passed, time_in, time_log_in}
@@ -44,7 +44,7 @@ timed_alike d e tmin trip n s h =
     let timer = λ (x : ℕ) (_ : ℕ) (log : List Happening) (p : Party). times clock x tmin (clock + trip) (length log) p in
     let tells = λ (x i : ℕ) (log : List Happening) (p : Party). timer_log p.own.standing clock x tmin p.own.since i log in
     let alike = λ (i : ℕ) (log : List Happening) (p : Party). timer_alike p.own.standing clock d e tmin (clock + trip) (length log) i p log in
-    let w = walks-alike (timer d) (timer e) (tells d) (tells e) (λ p. silent_for d clock p ≡ silent_for e clock p)
+    let w = walks_alike (timer d) (timer e) (tells d) (tells e) (λ p. silent_for d clock p ≡ silent_for e clock p)
     (λ i log p q. (alike i log p q).0) (λ i log p q. (alike i log p q).1) 1 n s.log s.table.parties nobody h in
     ap₂ (λ ps log. amid ps log s.table) w.0 w.1
 

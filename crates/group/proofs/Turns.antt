@@ -13,12 +13,12 @@ use Rattle.protocol.specs.Views.{Ready}
 use Rattle.group.specs.Passes.{with_ps, Turn, Telling, Turned, Passed}
 use Rattle.protocol.proofs.Walks.{turn, walks_beyond}
 
-pub beside-turn :
+pub beside_turn :
     {S : Type 0} (f : ℕ → S → Party → Party) (g : ℕ → S → Party → S) (i : ℕ) (t₀ t : Table) (s₀ s : S) →
     t ≡ with_ps (walks f g 1 i s₀ t₀.parties) t₀ → s ≡ folds g 1 i s₀ t₀.parties → i < length t.parties →
     (with_ps (set t.parties i (f (1 + i) s (get_or t.parties i nobody))) t ≡ with_ps (walks f g 1 (i + 1) s₀ t₀.parties) t₀)
     × (g (1 + i) s (get_or t.parties i nobody) ≡ folds g 1 (i + 1) s₀ t₀.parties)
-beside-turn f g i t₀ t s₀ s e u h =
+beside_turn f g i t₀ t s₀ s e u h =
     let w = turn f g 1 i s₀ t₀.parties nobody t.parties s (ap (λ (x : Table). x.parties) e) u h in
     (ap (λ x. with_ps (set t.parties i (f (1 + i) s (get_or t.parties i nobody))) x) e ∙ ap (λ ps. with_ps ps t₀) w.0, w.1)
 
@@ -38,12 +38,12 @@ module _ (f : Turn) (g : Telling) where
   pass_none t l h = record { extends = extends_refl l; few = omega arith; current = h; log = refl; after = refl }
 
   -- one turn more
-  pub pass-turn :
+  pub pass_turn :
       (i : ℕ) (t₀ t t' : Table) (l₀ l l' : SlotList Happening) → i < 32 → Passed f g i t₀ t l₀ l → Turned f g i t t' l l' →
       Passed f g (i + 1) t₀ t' l₀ l'
-  pass-turn i t₀ t t' l₀ l l' h v p =
+  pass_turn i t₀ t t' l₀ l l' h v p =
       let same : t.clock ≡ t₀.clock = ap (λ (u : Table). u.clock) v.after in
-      let w = beside-turn (f t₀.clock) (g t₀.clock) i t₀ t (items l₀) (items l) v.after v.log (omega (arith, p.many)) in
+      let w = beside_turn (f t₀.clock) (g t₀.clock) i t₀ t (items l₀) (items l) v.after v.log (omega (arith, p.many)) in
       record {
         extends = extends_trans l₀ l l' v.extends p.extends;
         few = omega (arith, v.few, p.few);

@@ -30,7 +30,7 @@ use Rattle.protocol.specs.Order.{InOrder}
 use Rattle.protocol.proofs.Onward.{Onward, stay, further, told, arrived, edges_same, sent_push, keeps_push, every_push, order_push, linked_push, losses_push, onward_linked, onward_losses, folds_onward, folds_between}
 use Rattle.protocol.proofs.Legs.{New, Turned, off_others, off_gone, stays, put_out, put_reply, put_entry}
 use Rattle.protocol.proofs.Asked.{asked_party, asked_low}
-use Rattle.protocol.proofs.Lifts.{set-each, set-two, walks_long, walks_at, folds_next}
+use Rattle.protocol.proofs.Lifts.{set_each, set_two, walks_long, walks_at, folds_next}
 
 -- the parties and the length of the log at some moment before
 pub record Moment : Type 0 where
@@ -125,7 +125,7 @@ module _ (o : Moment) (n c : ℕ) where
       Turned w i (length log) log' a b → T (set ps (i - 1) b) log'
   turns_two w i a b ps log log' lo hi grown t change =
       moves o n c w (set ps (i - 1) a) (set ps (i - 1) b) log log' (λ k x. k ≡ i - 1) grown t (λ j k x e f. e ∙ sym f)
-      (λ k leg d h. set-two (λ x y. on_leg leg y ≡ Some d → (on_leg leg x ≡ Some d) ⊎ (New w (k + 1) (length log) log' leg d × (k ≡ i - 1))) ps (i - 1) k a b nobody
+      (λ k leg d h. set_two (λ x y. on_leg leg y ≡ Some d → (on_leg leg x ≡ Some d) ⊎ (New w (k + 1) (length log) log' leg d × (k ≡ i - 1))) ps (i - 1) k a b nobody
       (λ e f. elim (change leg d f) [ inl old ↦ inl old | inr new ↦ inr (subst (λ j. New w j (length log) log' leg d) (omega arith) new, sym e) ])
       (λ f. inl f))
       (omega (arith, length-set ps (i - 1) a, length-set ps (i - 1) b, t.long))
@@ -134,7 +134,7 @@ module _ (o : Moment) (n c : ℕ) where
       Turned w i (length log) log' (get_or ps (i - 1) nobody) b → T (set ps (i - 1) b) log'
   turns_one w i b ps log log' lo hi grown t change =
       moves o n c w ps (set ps (i - 1) b) log log' (λ k x. k ≡ i - 1) grown t (λ j k x e f. e ∙ sym f)
-      (λ k leg d h. set-each (λ y. on_leg leg y ≡ Some d → (on_leg leg (get_or ps k nobody) ≡ Some d) ⊎ (New w (k + 1) (length log) log' leg d × (k ≡ i - 1))) ps (i - 1) k b nobody
+      (λ k leg d h. set_each (λ y. on_leg leg y ≡ Some d → (on_leg leg (get_or ps k nobody) ≡ Some d) ⊎ (New w (k + 1) (length log) log' leg d × (k ≡ i - 1))) ps (i - 1) k b nobody
       (λ e f. elim (change leg d f)
       [ inl old ↦ inl (subst (λ j. on_leg leg (get_or ps j nobody) ≡ Some d) e old) | inr new ↦ inr (subst (λ j. New w j (length log) log' leg d) (omega arith) new, sym e) ])
       (λ f. inl f))

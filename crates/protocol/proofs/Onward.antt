@@ -107,12 +107,12 @@ settles_neither false b e = refl
 
 -- one record more that is neither an arrival nor a loss
 pub told : (c : ℕ) (log : List Happening) (h : Happening) → h.tick ≡ c → settles h.kind ≡ false → Onward c log (log ++ h ∷ [])
-told c log h now no-settling = record {
+told c log h now no_settling = record {
   keeps = keeps_push log h;
   settled = λ k below. every_push log h (λ k x. settles x.kind ≡ true → (k < length log) × (x ≡ happening_at log k))
-      (λ k below is. (below, refl)) (λ is. absurd (clash _ is no-settling)) k below;
+      (λ k below is. (below, refl)) (λ is. absurd (clash _ is no_settling)) k below;
   longer = omega (arith, length_push log h);
-  same = edges_same log h (settles_neither _ _ no-settling);
+  same = edges_same log h (settles_neither _ _ no_settling);
   order = order_push log h c now;
 }
 

@@ -15,7 +15,7 @@ use Rattle.protocol.specs.Group.{Play, any, amid, timer_log, live_log, timed, ro
 use Rattle.protocol.specs.Runs.{asks, log_asks, is_own_log, number, perform, unless}
 use Rattle.protocol.specs.Making.{makes, Same}
 use Rattle.protocol.specs.Quiet.{at_clock, timer_rests, Rests, Quiet}
-use Rattle.protocol.proofs.Walks.{walks-still}
+use Rattle.protocol.proofs.Walks.{walks_still}
 use Rattle.protocol.proofs.Making.{same_trans, tick_on}
 
 -- a timer that rests keeps the party and the log
@@ -46,7 +46,7 @@ module _ (m : Meaning) (plan : Plan) (room : ℕ) where
 
   none_due : (t : Table) (c : ℕ) → Quiet m plan t c → any (due c) plan.n t.parties ≡ false
   none_due t c q =
-      (walks-still (λ _ _ p. p) (λ _ b p. b || due c p) (λ p. due c p ≡ false) false (λ k p e. refl) (λ k p e. e) 1 plan.n t.parties nobody
+      (walks_still (λ _ _ p. p) (λ _ b p. b || due c p) (λ p. due c p ≡ false) false (λ k p e. refl) (λ k p e. e) 1 plan.n t.parties nobody
       (λ k h. (q.parties k h).legs)).1
 
   -- where nothing is due, the log alone may refuse a tick
@@ -64,7 +64,7 @@ module _ (m : Meaning) (plan : Plan) (room : ℕ) where
       let t = s.table in
       let d = patience m plan.kind in
       let still = λ (i : ℕ) (p : Party) (r : Rests d m.tmin t.clock p). timer_still p.own.standing t.clock d m.tmin (t.clock + trip m) (length s.log) i p s.log r.timer in
-      let w = walks-still (λ _ log p. times t.clock d m.tmin (t.clock + trip m) (length log) p) (λ i log p. timer_log p.own.standing t.clock d m.tmin p.own.since i log)
+      let w = walks_still (λ _ log p. times t.clock d m.tmin (t.clock + trip m) (length log) p) (λ i log p. timer_log p.own.standing t.clock d m.tmin p.own.since i log)
       (Rests d m.tmin t.clock) s.log (λ i p r. (still i p r).0) (λ i p r. (still i p r).1) 1 plan.n t.parties nobody q.parties in
       ap₂ (λ ps log. amid ps log t) w.0 w.1
 

@@ -85,19 +85,19 @@ module _ (m : Terms) (kind : GroupKind) (law : LawfulTerms m kind) (q : Bool) (c
   pub ignore_entry : (how : Ending) (e : ℕ) → r ≡ Down how e → Keeps (off_entry p)
   ignore_entry how e down = grind (arith, nat_tests)
 
-  arrive-as :
+  arrive_as :
       (x y z : Bool) (r' : Root) (b : Beat) (place : ℕ) → r ≡ r' →
       cond x p.legs.out (cond y p.legs.reply (cond z p.legs.entry None)) ≡ Some b →
       Keeps (cond x (hears_as p.own.standing c place b.last (off_out p)) (heeds r' b.parting (cond x (off_out p) (cond y (off_reply p) (off_entry p)))))
-  arrive-as true y z r' b place e f = hear place b f
-  arrive-as false true z Running b place e f = answer b f e
-  arrive-as false true z (Down how at) b place e f = ignore_reply how at e
-  arrive-as false false true Running b place e f = enter b f e
-  arrive-as false false true (Down how at) b place e f = ignore_entry how at e
-  arrive-as false false false r' b place e f = absurd (grind arith)
+  arrive_as true y z r' b place e f = hear place b f
+  arrive_as false true z Running b place e f = answer b f e
+  arrive_as false true z (Down how at) b place e f = ignore_reply how at e
+  arrive_as false false true Running b place e f = enter b f e
+  arrive_as false false true (Down how at) b place e f = ignore_entry how at e
+  arrive_as false false false r' b place e f = absurd (grind arith)
 
   pub arrive : (leg : ℕ) (b : Beat) (place : ℕ) → on_leg leg p ≡ Some b → Keeps (arrives c r leg b place p)
-  arrive leg b place e = arrive-as (eqb leg 1) (eqb leg 2) (eqb leg 3) r b place refl e
+  arrive leg b place e = arrive_as (eqb leg 1) (eqb leg 2) (eqb leg 3) r b place refl e
 
   drop_as : (x y : Bool) → Survives (cond x (off_out p) (cond y (off_reply p) (off_entry p)))
   drop_as true y = drop_out
@@ -125,11 +125,11 @@ module _ (m : Terms) (kind : GroupKind) (law : LawfulTerms m kind) (q : Bool) (c
   pub root_stops : r ≡ Running → q ≡ false → Kept m kind q c (Down Stopped c) a l (missed p)
   root_stops up bad = grind (arith, nat_tests)
 
-  pub next-round :
+  pub next_round :
       (l' place : ℕ) → r ≡ Running → c ≡ a + l → due c p ≡ false → m.tmin ≤ l' → l' ≤ m.tmax →
       (p.note.roll ≡ On → l' ≤ m.wait (missed p).note.misses) → ((missed p).note.misses < m.span) →
       Kept m kind q c Running c l' (sends (c + m.tmin) place (missed p))
-  next-round l' place up end quiet lo hi w few =
+  next_round l' place up end quiet lo hi w few =
       let f = law.part (suc (suc p.note.misses)) in
       let g = law.step (suc p.note.misses) in
       let g₀ = law.step 0 in

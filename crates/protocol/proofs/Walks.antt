@@ -52,46 +52,46 @@ module _ {S A : Type 0} (f : ℕ → S → A → A) (g : ℕ → S → A → S) 
       (cc, cc)
 
 -- one turn of a loop that only keeps a state
-pub folds-turn :
+pub folds_turn :
     {S A : Type 0} (g : ℕ → S → A → S) (k i : ℕ) (s : S) (xs : List A) (d : A) (t : S) →
     t ≡ folds g k i s xs → i < length xs → g (k + i) t (get_or xs i d) ≡ folds g k (i + 1) s xs
-folds-turn g k i s xs d t e h = ap (λ u. g (k + i) u (get_or xs i d)) e ∙ sym (folds_more (λ _ _ x. x) g k i s xs d h)
+folds_turn g k i s xs d t e h = ap (λ u. g (k + i) u (get_or xs i d)) e ∙ sym (folds_more (λ _ _ x. x) g k i s xs d h)
 
 -- what holds of each element, changed or not, holds after a walk
-pub walks-all :
+pub walks_all :
     {S A : Type 0} (f : ℕ → S → A → A) (g : ℕ → S → A → S) (P Q : A → Type 0) →
     ((k : ℕ) (s : S) (x : A) → P x → Q (f k s x)) → ((x : A) → P x → Q x) →
     (k n : ℕ) (s : S) (xs : List A) (d : A) → ((j : ℕ) → P (get_or xs j d)) → (j : ℕ) → Q (get_or (walks f g k n s xs) j d)
-walks-all f g P Q step still k zero s xs d h j = still _ (h j)
-walks-all f g P Q step still k (suc n) s [] d h j = still _ (h j)
-walks-all f g P Q step still k (suc n) s (x ∷ xs) d h zero = step k s x (h zero)
-walks-all f g P Q step still k (suc n) s (x ∷ xs) d h (suc j) = walks-all f g P Q step still (suc k) n (g k s x) xs d (λ i. h (suc i)) j
+walks_all f g P Q step still k zero s xs d h j = still _ (h j)
+walks_all f g P Q step still k (suc n) s [] d h j = still _ (h j)
+walks_all f g P Q step still k (suc n) s (x ∷ xs) d h zero = step k s x (h zero)
+walks_all f g P Q step still k (suc n) s (x ∷ xs) d h (suc j) = walks_all f g P Q step still (suc k) n (g k s x) xs d (λ i. h (suc i)) j
 
 -- a walk that keeps each of the first n elements, and the state at each, changes nothing
-pub walks-still :
+pub walks_still :
     {S A : Type 0} (f : ℕ → S → A → A) (g : ℕ → S → A → S) (P : A → Type 0) (s : S) →
     ((k : ℕ) (x : A) → P x → f k s x ≡ x) → ((k : ℕ) (x : A) → P x → g k s x ≡ s) →
     (k n : ℕ) (xs : List A) (d : A) → ((j : ℕ) → j < n → P (get_or xs j d)) → (walks f g k n s xs ≡ xs) × (folds g k n s xs ≡ s)
-walks-still f g P s keeps stays k zero xs d h = (refl, refl)
-walks-still f g P s keeps stays k (suc n) [] d h = (refl, refl)
-walks-still f g P s keeps stays k (suc n) (x ∷ xs) d h =
+walks_still f g P s keeps stays k zero xs d h = (refl, refl)
+walks_still f g P s keeps stays k (suc n) [] d h = (refl, refl)
+walks_still f g P s keeps stays k (suc n) (x ∷ xs) d h =
     let p = h 0 (omega arith) in
-    let r = walks-still f g P s keeps stays (suc k) n xs d (λ j i. h (suc j) (omega arith)) in (
+    let r = walks_still f g P s keeps stays (suc k) n xs d (λ j i. h (suc j) (omega arith)) in (
       ap₂ (λ y ys. y ∷ ys) (keeps k x p) (ap (λ u. walks f g (suc k) n u xs) (stays k x p) ∙ r.0),
       ap (λ u. folds g (suc k) n u xs) (stays k x p) ∙ r.1,
     )
 
 -- two walks that do the same to each of the first n elements, at any state
-pub walks-alike :
+pub walks_alike :
     {S A : Type 0} (f f' : ℕ → S → A → A) (g g' : ℕ → S → A → S) (P : A → Type 0) →
     ((k : ℕ) (s : S) (x : A) → P x → f k s x ≡ f' k s x) → ((k : ℕ) (s : S) (x : A) → P x → g k s x ≡ g' k s x) →
     (k n : ℕ) (s : S) (xs : List A) (d : A) → ((j : ℕ) → j < n → P (get_or xs j d)) →
     (walks f g k n s xs ≡ walks f' g' k n s xs) × (folds g k n s xs ≡ folds g' k n s xs)
-walks-alike f f' g g' P same told k zero s xs d h = (refl, refl)
-walks-alike f f' g g' P same told k (suc n) s [] d h = (refl, refl)
-walks-alike f f' g g' P same told k (suc n) s (x ∷ xs) d h =
+walks_alike f f' g g' P same told k zero s xs d h = (refl, refl)
+walks_alike f f' g g' P same told k (suc n) s [] d h = (refl, refl)
+walks_alike f f' g g' P same told k (suc n) s (x ∷ xs) d h =
     let p = h 0 (omega arith) in
-    let r = walks-alike f f' g g' P same told (suc k) n (g k s x) xs d (λ j i. h (suc j) (omega arith)) in (
+    let r = walks_alike f f' g g' P same told (suc k) n (g k s x) xs d (λ j i. h (suc j) (omega arith)) in (
       ap₂ (λ y ys. y ∷ ys) (same k s x p) (r.0 ∙ ap (λ u. walks f' g' (suc k) n u xs) (told k s x p)),
       r.1 ∙ ap (λ u. folds g' (suc k) n u xs) (told k s x p),
     )

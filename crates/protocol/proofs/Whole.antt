@@ -29,7 +29,7 @@ use Rattle.protocol.specs.Kept.{Terms, LawfulTerms, Kept, Scene, Whole, terms}
 use Rattle.protocol.proofs.Numbers.{lawful}
 use Rattle.protocol.proofs.Step as step
 use Rattle.protocol.proofs.Asked.{asked_party}
-use Rattle.protocol.proofs.Lifts.{set-each, walks_long, walks-each, any_false, false-any, folds_falls, folds-below, folds-above}
+use Rattle.protocol.proofs.Lifts.{set_each, walks_long, walks_each, any_false, false_any, folds_falls, folds_below, folds_above}
 
 clash : (b : Bool) → b ≡ true → b ≡ false → ⊥
 clash b e f = let z : ◌≡◌ {A = ℕ} 0 1 = cc in omega arith
@@ -48,7 +48,7 @@ module _ (m : Terms) (kind : GroupKind) (law : LawfulTerms m kind) (n : ℕ) whe
       (KeptAt q t (get_or t.parties i nobody) → KeptAt q' t p) → Whole m kind q' n (with_parties (set t.parties i p) log t).table
   one q q' t i p log w weak change = record {
     scene = w.scene;
-    each = λ k h. set-each (KeptAt q' t) t.parties i k p nobody (λ e. change (w.each i (omega arith))) (weak _ (w.each k h));
+    each = λ k h. set_each (KeptAt q' t) t.parties i k p nobody (λ e. change (w.each i (omega arith))) (weak _ (w.each k h));
     long = omega (arith, length-set t.parties i p, w.long);
   }
 
@@ -109,7 +109,7 @@ module _ (μ : Meaning) (sound : Lawful μ) (kind : GroupKind) (n : ℕ) where
       let t = s.table in
       record {
         scene = later_scene _ _ _ _ w.whole.scene w.early;
-        each = λ k h. walks-each _ _ (λ p. KeptAt M kind law n q t p × (due t.clock p ≡ false))
+        each = λ k h. walks_each _ _ (λ p. KeptAt M kind law n q t p × (due t.clock p ≡ false))
             (λ p. Kept M kind q (t.clock + 1) t.root t.start t.length p)
             (λ j log p x. step.on_time M kind law q _ _ _ _ w.whole.scene p x.0 (length log) w.early x.1)
             1 n s.log t.parties nobody k h w.whole.long (w.whole.each k h, w.quiet k h);
@@ -131,7 +131,7 @@ module _ (μ : Meaning) (sound : Lawful μ) (kind : GroupKind) (n : ℕ) where
   -- the party at k after the count
   counted_at : (s : Play) (k : ℕ) → k < n → n ≤ length s.table.parties → get_or (counted n s).table.parties k nobody ≡ missed (get_or s.table.parties k nobody)
   counted_at s k h long =
-      walks-each _ _ (λ p. p ≡ get_or s.table.parties k nobody) (λ p. p ≡ missed (get_or s.table.parties k nobody)) (λ _ _ p e. ap missed e)
+      walks_each _ _ (λ p. p ≡ get_or s.table.parties k nobody) (λ p. p ≡ missed (get_or s.table.parties k nobody)) (λ _ _ p e. ap missed e)
       1 n 0 s.table.parties nobody k h long refl
 
   module _ (q : Bool) (s : Play) (w : All q s) (up : s.table.root ≡ Running) (end : s.table.clock ≡ s.table.start + s.table.length)
@@ -145,7 +145,7 @@ module _ (μ : Meaning) (sound : Lawful μ) (kind : GroupKind) (n : ℕ) where
     -- where no loss or crash was, no party is lost
     none_lost : q ≡ true → any (lost (length μ.waits)) n ps ≡ false
     none_lost good =
-        false-any (lost (length μ.waits)) 1 n ps nobody ps_long
+        false_any (lost (length μ.waits)) 1 n ps nobody ps_long
         (λ k h. subst (λ p. lost (length μ.waits) p ≡ false) (sym (counted_at s k h w.long))
         (step.trusted M kind law q _ _ _ _ w.scene _ (w.each k h) good end (quiet k h)))
 
@@ -172,13 +172,13 @@ module _ (μ : Meaning) (sound : Lawful μ) (kind : GroupKind) (n : ℕ) where
 
       next_low : μ.tmin ≤ next
       next_low =
-          folds-above (shorter μ.waits) (λ p. p.note.misses < length μ.waits) μ.tmin shorter_above 1 n μ.tmax ps nobody ps_long
+          folds_above (shorter μ.waits) (λ p. p.note.misses < length μ.waits) μ.tmin shorter_above 1 n μ.tmax ps nobody ps_long
           (λ k h. subst (λ p. p.note.misses < length μ.waits) (sym (counted_at s k h w.long)) (few k h)) sound.ordered
 
       next_wait : (k : ℕ) → k < n → (missed (get_or s.table.parties k nobody)).note.roll ≡ On → next ≤ get_or μ.waits (missed (get_or s.table.parties k nobody)).note.misses 0
       next_wait k h e =
           subst (λ p. (p.note.roll ≡ On) × (p.note.misses < length μ.waits) → next ≤ get_or μ.waits p.note.misses 0) (counted_at s k h w.long)
-          (folds-below (shorter μ.waits) shorter_falls (λ p. (p.note.roll ≡ On) × (p.note.misses < length μ.waits)) (λ p. get_or μ.waits p.note.misses 0)
+          (folds_below (shorter μ.waits) shorter_falls (λ p. (p.note.roll ≡ On) × (p.note.misses < length μ.waits)) (λ p. get_or μ.waits p.note.misses 0)
           shorter_below 1 n μ.tmax ps nobody k h ps_long)
           (e, few k h)
 
@@ -191,10 +191,10 @@ module _ (μ : Meaning) (sound : Lawful μ) (kind : GroupKind) (n : ℕ) where
           let both : (k : ℕ) → k < n →
           Kept M kind q c s.table.root c next (get_or (settled_as false μ n (counted n s)).table.parties k nobody)
           × (due c (get_or (settled_as false μ n (counted n s)).table.parties k nobody) ≡ false) =
-          λ k h. walks-each _ _ (λ p. p ≡ missed (get_or s.table.parties k nobody)) (λ p. Kept M kind q c s.table.root c next p × (due c p ≡ false))
+          λ k h. walks_each _ _ (λ p. p ≡ missed (get_or s.table.parties k nobody)) (λ p. Kept M kind q c s.table.root c next p × (due c p ≡ false))
           (λ j log p e. subst (λ x. Kept M kind q c s.table.root c next (sends (c + μ.tmin) (length log) x) × (due c (sends (c + μ.tmin) (length log) x) ≡ false)) (sym e) (
             subst (λ r. Kept M kind q c r c next (sends (c + μ.tmin) (length log) (missed (get_or s.table.parties k nobody)))) (sym up)
-                (step.next-round M kind law q _ _ _ _ w.scene _ (w.each k h) next (length log) up end (quiet k h) next_low
+                (step.next_round M kind law q _ _ _ _ w.scene _ (w.each k h) next (length log) up end (quiet k h) next_low
                 (folds_falls (shorter μ.waits) shorter_falls 1 n μ.tmax ps) (λ e. next_wait k h (missed_roll (get_or s.table.parties k nobody) e)) (few k h)),
             step.sent_quiet M kind law q _ _ _ _ w.scene _ (w.each k h) (length log) (quiet k h),
           ))
