@@ -58,7 +58,7 @@ pub(crate) fn do_lose(
 }
 
 pub(crate) fn do_crash(table: &mut Table, log: &mut SlotList<'_, Happening>, party: u8)
-    requires { (party ≤ 32) × ((Ready log.old table.now.clock 2) × (can_crash party (record { table = table.now; log = [] }) ≡ true)) }
+    requires { (party ≤ 32) × ((Ready log.old table.old.clock 2) × (can_crash party (record { table = table.old; log = [] }) ≡ true)) }
     ensures extends { Extends log.old log.new }
     ensures after { play table.new log.new ≡ crashed party (play table.old log.old) }
 {

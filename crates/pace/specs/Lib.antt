@@ -6,5 +6,5 @@ pub mod Cases
 pub mod Fronts
 pub mod Halves
 pub mod Falling
-pub mod QuestionsLemmas
+pub mod Allowed
 pub mod Phases

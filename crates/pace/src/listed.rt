@@ -3,7 +3,7 @@ ghost use Rattle.std.specs.Prelude.{◌≡◌, ◌≤◌, [], ◌∷◌, length,
 ghost use Rattle.pace.specs.Answers.{Answered};
 ghost use Rattle.pace.specs.Questions.{waits_no, all_within};
 ghost use Rattle.pace.specs.Waits.{between};
-ghost use Rattle.pace.specs.QuestionsLemmas.{allowed_lawful};
+ghost use Rattle.pace.specs.Allowed.{allowed_lawful};
 
 use crate::limits::Limits;
 use crate::meaning::Pace;

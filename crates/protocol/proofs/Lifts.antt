@@ -105,7 +105,7 @@ folds_above g P m step j (suc n) s [] d long h low = low
 folds_above g P m step j (suc n) s (x ∷ xs) d long h low =
     folds_above g P m step (suc j) n (g j s x) xs d (omega arith) (λ k i. h (suc k) (omega arith)) (step j s x (h 0 (omega arith)) low)
 
-pub get_d_any : {A : Type 0} (xs : List A) (k : ℕ) (d e : A) → k < length xs → get_or xs k d ≡ get_or xs k e
-get_d_any [] k d e h = absurd (omega arith)
-get_d_any (x ∷ xs) zero d e h = refl
-get_d_any (x ∷ xs) (suc k) d e h = get_d_any xs k d e (omega arith)
+pub get_or_any : {A : Type 0} (xs : List A) (k : ℕ) (d e : A) → k < length xs → get_or xs k d ≡ get_or xs k e
+get_or_any [] k d e h = absurd (omega arith)
+get_or_any (x ∷ xs) zero d e h = refl
+get_or_any (x ∷ xs) (suc k) d e h = get_or_any xs k d e (omega arith)

@@ -10,7 +10,7 @@ use Rattle.protocol.specs.Group.{happens, links}
 use Rattle.protocol.specs.Runs.{tick_of}
 use Rattle.protocol.specs.Beats.{is_arrival, is_loss, settles, nothing, happening_at, SentBy, OtherEnd, LinkedAt, LostAt, Linked, LossesLinked, edge, edges}
 use Rattle.protocol.specs.Order.{InOrder}
-use Rattle.protocol.proofs.Lifts.{get_d_any}
+use Rattle.protocol.proofs.Lifts.{get_or_any}
 
 -- the log has grown by records of tick c that are neither arrivals nor losses
 pub record Onward (c : ℕ) (log log' : List Happening) : Type 0 where
@@ -59,7 +59,7 @@ module _ (log : List Happening) (h : Happening) where
   pub order_push : (c : ℕ) → h.tick ≡ c → InOrder c log → InOrder c (log ++ h ∷ [])
   order_push c e o = record {
     rises = IsNonDecreasingBy-push tick_of log h o.rises
-        (λ d pos. omega (arith, e, ap tick_of (get_d_any log (length log - 1) d nothing (omega arith)), o.none_later (length log - 1) (omega arith)));
+        (λ d pos. omega (arith, e, ap tick_of (get_or_any log (length log - 1) d nothing (omega arith)), o.none_later (length log - 1) (omega arith)));
     none_later = every_push (λ k x. x.tick ≤ c) o.none_later (omega (arith, e));
   }
 

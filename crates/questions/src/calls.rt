@@ -60,7 +60,7 @@ pub fn ask_crash(
 
 fn can_crash(table: &Table, party: u8) -> bool
     requires { party ≤ 32 }
-    ensures { result ≡ can_crash party (record { table = table.entry.now; log = [] }) }
+    ensures { result ≡ can_crash party (record { table = table.now; log = [] }) }
 {
     if party == 0 {
         match table.root {

@@ -1,7 +1,7 @@
 use Rattle.std.proofs.Common.{◌<◌, ◌⊎◌, get_or, sym, ◌∙◌, inl, inr, arith}
 use Rattle.std.proofs.lemmas.List.{at_drop_all}
 use Rattle.pace.specs.Questions.{all_within}
-use Rattle.pace.specs.QuestionsLemmas.{within_more, within_not}
+use Rattle.pace.specs.Allowed.{within_more, within_not}
 use Rattle.pace.proofs.listed.lie_within.Goals as goal
 use Rattle.pace.proofs.listed.lie_within.Goals.{then-w-tmin-via-then-w-tmin, then-w-tmin-via-else-w-tmin+then-w-tmax}
 
