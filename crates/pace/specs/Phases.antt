@@ -27,6 +27,10 @@ phases_lawful l n h = record {
         let s : slice_index_or (replicate n l.tmin) k 0 ≡ l.tmin = get_or-replicate n k l.tmin 0 (omega arith) in
         (omega (arith, s), omega (arith, s, l.ordered))
 
+-- 64 waits are as many as a pace may have
+pub two_phase_lawful : (l : Limits) → Lawful (between l (phases 63 l.tmin l.tmax))
+two_phase_lawful l = phases_lawful l 63 (omega arith)
+
 -- the waits after the first
 pub nth_phases : (n tmin tmax k : ℕ) → (k ≢ 0) → k < suc n → slice_get (phases n tmin tmax) k ≡ Some tmin
 nth_phases n tmin tmax zero a b = absurd (a refl)

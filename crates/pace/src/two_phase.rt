@@ -1,8 +1,7 @@
 // tmax once, then tmin 63 times.
 ghost use Rattle.std.specs.Prelude.{◌≡◌};
 ghost use Rattle.pace.specs.Waits.{between, phases};
-ghost use Rattle.std.proofs.Common.{arith};
-ghost use Rattle.pace.specs.Phases.{phases_lawful};
+ghost use Rattle.pace.specs.Phases.{two_phase_lawful};
 
 use crate::limits::Limits;
 use crate::meaning::Pace;
@@ -26,7 +25,7 @@ impl TwoPhase {
 impl Pace for TwoPhase {
     ghost means = { λ s. between s.limits (phases 63 s.limits.tmin s.limits.tmax) };
 
-    ghost lawful = { λ s. phases_lawful s.limits 63 (omega arith) };
+    ghost lawful = { λ s. two_phase_lawful s.limits };
 
     fn limits(&self) -> Limits {
         self.limits
