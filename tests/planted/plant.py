@@ -19,7 +19,9 @@ proof of a function or of a lemma, the compiler, or nothing. Where nothing does,
 """
 
 import concurrent.futures
+import os
 import pathlib
+import queue
 import re
 import shutil
 import subprocess
@@ -29,7 +31,7 @@ import tempfile
 HERE = pathlib.Path(__file__).resolve().parent
 TOP = HERE.parent.parent
 RESULTS = HERE / "RESULTS.md"
-WORKERS = 2
+WORKERS = os.cpu_count() or 2
 
 
 class Bug:
@@ -37,13 +39,16 @@ class Bug:
         self.crate, self.name = crate, name
         self.edits = []     # (file, old, new)
 
-    def plant(self, folder):
+    def texts(self, folder):
+        """Each file that the bug changes, as it is and with the bug in it."""
+        texts = {}
         for file, old, new in self.edits:
             path = folder / file
-            text = path.read_text()
+            was, text = texts.setdefault(path, (path.read_text(),) * 2)
             if text.count(old) != 1:
                 sys.exit(f"{self.crate}: {self.name}: stands {text.count(old)} times in {file}: {old}")
-            path.write_text(text.replace(old, new))
+            texts[path] = was, text.replace(old, new)
+        return texts
 
 
 def read_list(path):
@@ -87,13 +92,17 @@ def copy(source, work):
     shutil.copytree(source / "crates", work / "crates", ignore=shutil.ignore_patterns("out"))
 
 
-def try_bug(source, bug):
-    with tempfile.TemporaryDirectory(prefix="planted-") as folder:
-        work = pathlib.Path(folder)
-        copy(source, work)
-        bug.plant(work / "crates" / bug.crate)
-        status, said = check(work, bug.crate)
-        return refuser(status, said, bug.crate)
+def try_bug(copies, bug):
+    work = copies.get()
+    texts = bug.texts(work / "crates" / bug.crate)
+    try:
+        for path, (_, text) in texts.items():
+            path.write_text(text)
+        return refuser(*check(work, bug.crate), bug.crate)
+    finally:
+        for path, (was, _) in texts.items():
+            path.write_text(was)
+        copies.put(work)
 
 
 def row(bug, refused_by):
@@ -118,9 +127,13 @@ def main(words):
     rows = known_rows()
     survived = 0
     with tempfile.TemporaryDirectory(prefix="planted-") as folder, concurrent.futures.ThreadPoolExecutor(WORKERS) as pool:
-        source = pathlib.Path(folder)       # a copy, so that work on the repository can go on
-        copy(TOP, source)
-        for bug, refused_by in zip(bugs, pool.map(lambda bug: try_bug(source, bug), bugs)):
+        copies = queue.Queue()      # one for each worker, so that work on the repository can go on
+        for worker in range(WORKERS):
+            work = pathlib.Path(folder) / str(worker)
+            work.mkdir()
+            copy(TOP, work)
+            copies.put(work)
+        for bug, refused_by in zip(bugs, pool.map(lambda bug: try_bug(copies, bug), bugs)):
             print(f"{bug.crate}: {bug.name}: {refused_by}", flush=True)
             rows[bug.crate, bug.name] = row(bug, refused_by)
             survived += refused_by == "nothing"
