@@ -229,9 +229,9 @@ module _ (o : Moment) (n c : ℕ) where
 
 -- the records that a call writes after the arrival or the loss
 module _ (c : ℕ) where
-  cond_onward : (b : Bool) (log log' : List Happening) → Onward c log log' → Onward c log (cond b log' log)
-  cond_onward true log log' w = w
-  cond_onward false log log' w = stay c log
+  cond_onward : (b : Bool) (log grown : List Happening) → Onward c log grown → Onward c log (cond b grown log)
+  cond_onward true log grown w = w
+  cond_onward false log grown w = stay c log
 
   answer_onward : (roll : Roll) (b : Bool) (i : ℕ) (log : List Happening) → Onward c log (answer_log roll b c i log)
   answer_onward Struck b i log = stay c log
