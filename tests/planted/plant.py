@@ -15,7 +15,9 @@ crate that its bugs are planted in, up to a dash, and has a block for each bug:
 
 `old` stands once in the file. A block may have several pairs, and several files. The bug is planted in a copy of the crate;
 nothing of the repository changes. The table goes to tests/planted/RESULTS.md: each bug with what refused it, which is the
-proof of a function or of a lemma, the compiler, or nothing. Where nothing does, a contract is too weak, and the status is 1.
+proof of a function or of a lemma, names, the compiler, or nothing. Names means that the first error is a step of the code that a
+proof file cites and that the bug took away: that says nothing of the contract. Where nothing refuses, a contract is too weak, and
+the status is 1.
 """
 
 import concurrent.futures
@@ -83,7 +85,9 @@ def refuser(status, said, crate):
     functions.sort(key=lambda name: not name.startswith("laws::"))
     lemmas = re.findall(r"/proofs/(\w+)\.antt:\d+:\d+: error: `([^`]+)`", said)
     first = [f"lemma {name} of {file}" for file, name in lemmas[:1]]
-    return "proof: " + ", ".join(functions[:3] + [".."] * (len(functions) > 3) + first)
+    error = re.search(r"^.*(?:error: |it is not proved|found no proof).*", said, re.M)
+    cause = "names" if error and re.search(r"has no (?:field )?`", error.group(0)) else "proof"
+    return f"{cause}: " + ", ".join(functions[:3] + [".."] * (len(functions) > 3) + first)
 
 
 def copy(source, work):
@@ -139,7 +143,8 @@ def main(words):
             survived += refused_by == "nothing"
     listed = [bug for path in sorted(HERE.glob("*.bugs")) for bug in read_list(path)]
     lines = [rows[bug.crate, bug.name] for bug in listed if (bug.crate, bug.name) in rows]
-    head = ["# Planted bugs, and what refused each", "", "Written by `plant.py`; each row is one wrong edit, tried alone.", "",
+    head = ["# Planted bugs, and what refused each", "", "Written by `plant.py`; each row is one wrong edit, tried alone. *Proof* is a fact that no longer holds. *Names* is a step of",
+            "the code that a proof file cites and that the edit took away; such a row says nothing of the contract.", "",
             "| crate | bug | edit | refused by |", "|---|---|---|---|"]
     RESULTS.write_text("\n".join(head + lines) + "\n")
     print(f"{len(bugs)} planted, {survived} refused by nothing")
