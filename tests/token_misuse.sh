@@ -29,6 +29,6 @@ misuse() {
     fi
 }
 
-misuse 'returning with an inner graph open' linear-value-let-go 'if !all { return (RunGraph::open(out), false); }'
+misuse 'returning with an inner graph open' linear-value-let-go 'if written.is_err() { return Err(RunGraph::open(out)); }'
 misuse 'closing the outer graph under an open inner one' borrow-e0382 'run.close(out);'
 exit $failed

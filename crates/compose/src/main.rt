@@ -1,10 +1,10 @@
 // Composes the text schedule on standard input, and writes the order file to standard output.
 #![tactic(auto)]
 
-use orders::order::{Order, OrderKind};
+use orders::order::{ORDER_SIZE, Order};
+use orders::start::START_SIZE;
 use schedule::compose::compose;
 use schedule::notice::notice;
-use std::alloc::AllocError;
 use std::io;
 use std::io::{Read, Write};
 use std::process::ExitCode;
@@ -12,41 +12,14 @@ use std::process::ExitCode;
 // A longer text is refused.
 const TEXT_BYTES: usize = 1_048_576;
 
-// As many as a file has room for.
-const ORDER_SLOTS: usize = 7_280;
-
 // As many as `runfile` reads.
 const FILE_BYTES: usize = 65_536;
 
-// What a slot holds before it is used.
-const NO_ORDER: Order = Order {
-    kind: OrderKind::Wait,
-    party: 0,
-    leg: 0,
-    tick: 0,
-};
-
-// Why no file was written, where it is not the text's fault.
-#[derive(Debug, Drop)]
-enum Failure {
-    Memory,
-    Device(io::Error),
-}
-
-impl From<AllocError> for Failure {
-    fn from(_error: AllocError) -> Failure {
-        Failure::Memory
-    }
-}
-
-impl From<io::Error> for Failure {
-    fn from(error: io::Error) -> Failure {
-        Failure::Device(error)
-    }
-}
+// As many as a file has room for.
+const ORDER_SLOTS: usize = (FILE_BYTES - START_SIZE) / ORDER_SIZE;
 
 // Standard error tells what is wrong with a text, and the status is 1 then.
-fn main(rt: HostRuntime) -> Result<ExitCode, Failure> {
+fn main(rt: HostRuntime) -> io::Result<ExitCode> {
     let heap = rt.alloc();
     let mut text = Vec::new(heap);
     rt.stdin()
@@ -57,7 +30,7 @@ fn main(rt: HostRuntime) -> Result<ExitCode, Failure> {
             .write_all(b"the text has more than 1,048,576 bytes\n")?;
         return Ok(ExitCode::FAILURE);
     }
-    let mut orders = vec![in heap; NO_ORDER; ORDER_SLOTS]?;
+    let mut orders = vec![in heap; Order::default(); ORDER_SLOTS]?;
     let mut file = vec![in heap; 0u8; FILE_BYTES]?;
     match compose(text.as_slice(), orders.as_mut_slice(), file.as_mut_slice()) {
         Ok(size) => {

@@ -1,7 +1,7 @@
 // How long a party waits for the root.
-ghost use Rattle.std.specs.Prelude.{◌≡◌, ◌≤◌};
+ghost use Rattle.std.specs.Prelude.{◌≡◌, take};
+ghost use Rattle.std.specs.List.{list_any};
 ghost use Rattle.protocol.specs.Patience.{patience};
-ghost use Rattle.protocol.specs.Group.{any};
 ghost use Rattle.dues.specs.Patience.{silent_for, DoesFor};
 
 use pace::Pace;
@@ -28,22 +28,20 @@ pub fn patience_for<P: Pace>(pace: &P, plan: &Plan, table: &Table) -> u32
     ensures { DoesFor (P.means pace.now) plan.now table.now result }
 {
     let least = 2 * pace.limits().tmax();
-    if is_any_silent(table, plan.parties(), least) {
+    if is_any_silent(plan, table, least) {
         patience_of(pace, plan.kind())
     } else {
         least
     }
 }
 
-fn is_any_silent(table: &Table, n: u8, ticks: u32) -> bool
-    requires { n ≤ 32 }
-    ensures { result ≡ any (silent_for ticks table.now.clock) n table.now.parties }
+fn is_any_silent(plan: &Plan, table: &Table, ticks: u32) -> bool
+    ensures { result ≡ list_any (silent_for ticks table.now.clock) (take plan.now.n table.now.parties) }
 {
-    let mut any = false;
-    for i in 0..n as usize {
-        any = any | is_silent(&table.parties[i], table.clock, ticks);
-    }
-    any
+    table
+        .members(plan)
+        .iter()
+        .any(|party| is_silent(party, table.clock, ticks))
 }
 
 fn is_silent(party: &Party, clock: u32, ticks: u32) -> bool

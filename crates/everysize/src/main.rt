@@ -2,90 +2,74 @@
 // least that holds the frame to three bytes more than the whole file needs.
 #![tactic(auto)]
 
-use orders::order::{Order, OrderKind};
-use player::program::run_file;
-use protocol::happening::{Happening, HappeningKind};
+use graphml::run::FRAME;
+use orders::order::Order;
+use player::program::{Printed, run_file};
+use player::sizes::{INPUT_BYTES, LOG_SLOTS, ORDER_SLOTS, OUTPUT_BYTES};
+use protocol::happening::Happening;
 use std::io;
 use std::io::{Read, Write};
 
-const INPUT_BYTES: u64 = 65_536;
+// The file that is played, and what is lent to play it.
+#[derive(Drop)]
+struct Lent {
+    input: Vec<u8>,
+    orders: Vec<Order>,
+    log: Vec<Happening>,
+    out: Vec<u8>,
+}
 
-const ORDER_SLOTS: usize = 8_192;
+impl Lent {
+    fn read(rt: &HostRuntime) -> io::Result<Lent> {
+        let heap = rt.alloc();
+        let mut input = Vec::new(heap);
+        rt.stdin().take(INPUT_BYTES).read_to_end(&mut input)?;
+        Ok(Lent {
+            input,
+            orders: vec![in heap; Order::default(); ORDER_SLOTS]?,
+            log: vec![in heap; Happening::default(); LOG_SLOTS]?,
+            out: vec![in heap; 0u8; OUTPUT_BYTES]?,
+        })
+    }
 
-const LOG_SLOTS: usize = 2_048;
+    // Plays it into an output of so many bytes, if that many are lent.
+    fn play(&mut self, size: usize) -> Option<Printed> {
+        let room = self.out.as_mut_slice().get_mut(0..size)?;
+        Some(run_file(
+            self.input.as_slice(),
+            self.orders.as_mut_slice(),
+            self.log.as_mut_slice(),
+            room,
+        ))
+    }
 
-const OUTPUT_BYTES: usize = 65_536;
-
-const LEAST: usize = 275;
-
-const NO_ORDER: Order = Order {
-    kind: OrderKind::Wait,
-    party: 0,
-    leg: 0,
-    tick: 0,
-};
-
-const NO_HAPPENING: Happening = Happening {
-    tick: 0,
-    owner: 0,
-    kind: HappeningKind::Sent,
-    link: 0,
-};
-
-// Prints the size, how many bytes follow, and then what is printed at that size; answers the bytes of the file.
-fn print_at(
-    rt: &HostRuntime,
-    size: usize,
-    input: &[u8],
-    orders: &mut [Order],
-    log: &mut [Happening],
-    out: &mut [u8],
-    shown: bool,
-) -> io::Result<usize> {
-    let Some(room) = out.get_mut(0..size) else {
-        return Ok(0);
-    };
-    let printed = run_file(input, orders, log, room);
-    if shown {
-        let file = room.get(0..printed.file_bytes).unwrap_or(&[]);
+    // Prints the size, how many bytes follow, and then what `runfile` prints at that size.
+    fn tell(&self, rt: &HostRuntime, size: usize, printed: &Printed) -> io::Result<()> {
+        let file = self
+            .out
+            .as_slice()
+            .get(0..printed.file_bytes)
+            .unwrap_or(&[]);
         let notices = printed.notices.as_slice();
         let following = file.len().saturating_add(notices.len());
         println!(rt; "{size} {following}")?;
         rt.stdout().write_all(file)?;
-        rt.stdout().write_all(notices)?;
+        rt.stdout().write_all(notices)
     }
-    Ok(printed.file_bytes)
 }
 
 fn main(rt: HostRuntime) -> io::Result<()> {
-    let heap = rt.alloc();
-    let mut input = Vec::new(heap);
-    rt.stdin().take(INPUT_BYTES).read_to_end(&mut input)?;
-    let mut orders = vec![in heap; NO_ORDER; ORDER_SLOTS]?;
-    let mut log = vec![in heap; NO_HAPPENING; LOG_SLOTS]?;
-    let mut out = vec![in heap; 0u8; OUTPUT_BYTES]?;
-    let whole = print_at(
-        &rt,
-        OUTPUT_BYTES,
-        input.as_slice(),
-        orders.as_mut_slice(),
-        log.as_mut_slice(),
-        out.as_mut_slice(),
-        false,
-    )?;
+    let mut lent = Lent::read(&rt)?;
+    let whole = lent
+        .play(OUTPUT_BYTES)
+        .map_or(0, |printed| printed.file_bytes);
     if whole == 0 {
         return Ok(());
     }
-    for size in LEAST..whole.saturating_add(4) {
-        print_at(
-            &rt,
-            size,
-            input.as_slice(),
-            orders.as_mut_slice(),
-            log.as_mut_slice(),
-            out.as_mut_slice(),
-            true,
-        )?;
+    for size in FRAME..whole.saturating_add(4) {
+        if let Some(printed) = lent.play(size) {
+            lent.tell(&rt, size, &printed)?;
+        }
     }
     Ok(())
 }

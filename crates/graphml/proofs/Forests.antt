@@ -1,5 +1,5 @@
 -- What is written of a forest, element by element.
-use Rattle.std.proofs.Common.{◌≡◌, ℕ, ◌+◌, ◌-◌, ◌<◌, ◌≤◌, true, false, cond, leb, [], ◌++◌, length, sym, refl, ap, ◌∙◌, subst, ⊎_elim, add-zero, arith, length-append, le-leb, leb-false, leb-true}
+use Rattle.std.proofs.Common.{◌≡◌, ℕ, ◌+◌, ◌-◌, ◌<◌, ◌≤◌, true, false, cond, leb, ◌++◌, length, sym, refl, ap, ◌∙◌, subst, ⊎_elim, add-zero, arith, length-append, le-leb, leb-false, leb-true}
 use borrow.Author.Tests.{lt-leb}
 use Rattle.std.proofs.lemmas.Bool.{cases_Bool}
 use Rattle.text.specs.Bytes.{placed}
@@ -52,14 +52,11 @@ kept_whole room (element t i a) h =
     kept_on room t i a (le-leb _ _ (omega arith)) (le-leb _ _ (omega arith)) ∙ ap (element t i) (kept_whole (room - (size t) - cost i) a (omega arith))
 
 -- two states with equal parts
-pub same_state : {s t : State} → s.bytes ≡ t.bytes → s.at ≡ t.at → s.room ≡ t.room → s.happenings ≡ t.happenings → s.edges ≡ t.edges → s ≡ t
-same_state b a r h e = λ i. record { bytes = b i; at = a i; room = r i; happenings = h i; edges = e i }
+pub same_state : {s t : State} → s.lent ≡ t.lent → s.bytes ≡ t.bytes → s.at ≡ t.at → s.room ≡ t.room → s.happenings ≡ t.happenings → s.edges ≡ t.edges → s ≡ t
+same_state l b a r h e = λ i. record { lent = l i; bytes = b i; at = a i; room = r i; happenings = h i; edges = e i }
 
 pub drawn_none : (s : State) → drawn s none ≡ s
-drawn_none s = same_state (placed_none s.bytes s.at) (add-zero _) (omega arith) (add-zero _) (add-zero _)
-
-pub wrote_none : (s : State) → wrote s [] ≡ s
-wrote_none s = same_state (placed_none s.bytes s.at) (add-zero _) refl refl refl
+drawn_none s = same_state refl (placed_none s.bytes s.at) (add-zero _) (omega arith) (add-zero _) (add-zero _)
 
 -- an element is its opening, what is inside, its closing, and what comes after
 pub after_element : (s : State) (t : Tag) (i a : Forest) → s.at + s.room ≤ length s.bytes → size t + cost i + cost a ≤ s.room → after s (element t i a) ≡ after (marked t (wrote (after (opened s (opening t) (length (closing t))) i) (closing t))) a
@@ -73,7 +70,7 @@ after_element s t i a sound room =
     let r1 = reached b at (opening t) (placed b at (opening t)) (at + length (opening t)) (render i) (omega arith) (refl, refl) in
     let r2 = reached b at (opening t ++ render i) _ _ (closing t) (omega arith) r1 in
     let r3 = reached b at (opening t ++ render i ++ closing t) _ _ (render a) (omega arith) r2 in
-    same_state (sym r3.0) (sym r3.1) (omega arith) (omega arith) (omega arith)
+    same_state refl (sym r3.0) (sym r3.1) (omega arith) (omega arith) (omega arith)
 
 pub same_leb : (a b c d : ℕ) → (a ≤ b → c ≤ d) → (c ≤ d → a ≤ b) → leb a b ≡ leb c d
 same_leb a b c d f g =
@@ -116,13 +113,6 @@ module _ (s : State) (t : Tag) (i a : Forest) (sound : s.at + s.room ≤ length 
         same_leb _ _ _ _ (λ x. omega arith) (λ x. omega arith) ∙ ap (λ f. all_fits (left - cost f) a) (sym all),
       )
 
--- an element that is one line
-pub line_on : (s : State) (t : Tag) (a : Forest) → closing t ≡ [] → s.at + s.room ≤ length s.bytes → has_room s (opening t) 0 ≡ true → (drawn s (element t none a) ≡ drawn (marked t (opened s (opening t) 0)) a) × (all_fits s.room (element t none a) ≡ all_fits (opened s (opening t) 0).room a)
-line_on s t a n sound p =
-    let g = goes_on s t none a sound (ap (λ c. has_room s (opening t) (length c)) n ∙ p) (le-leb 0 _ (omega arith)) in
-    let e : past s t none a sound ≡ marked t (opened s (opening t) 0) = ap (λ c. marked t (wrote (drawn (opened s (opening t) (length c)) none) c)) n ∙ ap (marked t) (wrote_none _ ∙ drawn_none (opened s (opening t) 0)) in
-    (g.0 ∙ ap (λ x. drawn x a) e, g.1 ∙ ap (λ x. all_fits x.room a) e)
-
 -- what comes after an element
 module _ (s : State) (t : Tag) (i a : Forest) (sound : s.at + s.room ≤ length s.bytes) where
   abbrev first : Forest
@@ -153,15 +143,15 @@ module _ (s : State) (t : Tag) (i a : Forest) (sound : s.at + s.room ≤ length 
 -- an element that is not counted, and is begun, ends as its inside does, closed
 module _ (s : State) (t : Tag) (i : Forest) (sound : s.at + s.room ≤ length s.bytes) (p : is_happening t ≡ 0) (q : is_edge t ≡ 0) where
   uncounted : (x : State) → marked t x ≡ x
-  uncounted x = same_state refl refl refl (ap (λ k. x.happenings + k) p ∙ add-zero _) (ap (λ k. x.edges + k) q ∙ add-zero _)
+  uncounted x = same_state refl refl refl refl (ap (λ k. x.happenings + k) p ∙ add-zero _) (ap (λ k. x.edges + k) q ∙ add-zero _)
 
   abbrev in_it : State
   in_it = opened s (opening t) (length (closing t))
 
-  pub framed : has_room s (opening t) (length (closing t)) ≡ true → (drawn s (element t i none) ≡ wrote (drawn in_it i) (closing t)) × (all_fits s.room (element t i none) ≡ all_fits in_it.room i)
+  pub framed : has_room s (opening t) (length (closing t)) ≡ true → drawn s (element t i none) ≡ wrote (drawn in_it i) (closing t)
   framed f =
       let u : State = wrote (drawn in_it i) (closing t) in
       ⊎_elim
-      (λ w. let x = goes_on s t i none sound f w in (x.0 ∙ drawn_none _ ∙ uncounted u, x.1 ∙ le-leb 0 _ (omega arith) ∙ sym w))
-      (λ w. let x = cuts s t i none sound f w in (x.0 ∙ uncounted u, x.1 ∙ sym w))
+      (λ w. (goes_on s t i none sound f w).0 ∙ drawn_none _ ∙ uncounted u)
+      (λ w. (cuts s t i none sound f w).0 ∙ uncounted u)
       (cases_Bool (all_fits in_it.room i))

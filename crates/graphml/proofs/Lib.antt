@@ -1,7 +1,6 @@
 mod Words
 mod Forests
 mod Sounds
-mod OneLine
 mod Loops
 mod Steps
 mod Party

@@ -1,18 +1,15 @@
 -- What is left to write gives what was to be written.
-use Rattle.std.proofs.Common.{◌≡◌, ℕ, true, false, sym, refl, ap, ◌∙◌, subst, arith, le-leb}
+use Rattle.std.proofs.Common.{◌≡◌, ℕ, true, false, sym, ap, ◌∙◌, subst, arith}
 use Rattle.graphml.specs.Elements.{Tag, Forest, none, element}
 use Rattle.graphml.specs.Cut.{all_fits}
 use Rattle.graphml.specs.State.{State, Sound, drawn}
-use Rattle.graphml.proofs.Forests.{first_whole, first_cut, drawn_none}
+use Rattle.graphml.proofs.Forests.{first_whole, first_cut}
 
 -- the state s, with f still to write, ends as start does with all of it to write
 pub record Left (s : State) (f : Forest) (start : State) (all : Forest) (k : ℕ) : Type 0 where
   pub draws : drawn s f ≡ drawn start all
   pub wholly : all_fits s.room f ≡ all_fits start.room all
   pub sound : Sound s k
-
-pub left_start : (s : State) (f : Forest) (k : ℕ) → Sound s k → Left s f s f k
-left_start s f k h = record { draws = refl; wholly = refl; sound = h }
 
 pub left_as : {s start : State} {f all : Forest} {k : ℕ} (g : Forest) → f ≡ g → Left s f start all k → Left s g start all k
 left_as {s} {start} {f} {all} {k} g e l = subst (λ x. Left s x start all k) e l
@@ -34,6 +31,3 @@ module _ {s start : State} {all : Forest} {k : ℕ} where
         let room = l.sound.fits in
         let x = first_cut s t i a (omega arith) (sym p) in
         (sym x.1 ∙ l.wholly, e ∙ sym x.0 ∙ l.draws)
-
-  pub left_end : Left s none start all k → (true ≡ all_fits start.room all) × (s ≡ drawn start all)
-  left_end l = (sym (le-leb 0 s.room (omega arith)) ∙ l.wholly, sym (drawn_none s) ∙ l.draws)

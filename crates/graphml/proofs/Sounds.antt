@@ -1,12 +1,7 @@
 -- What is set aside stays so.
-use Rattle.std.proofs.Common.{◌≡◌, ℕ, ◌+◌, true, List, length, sym, ap, ◌∙◌, subst, arith, leb-true}
-use Rattle.graphml.specs.State.{State, Sound, wrote, opened, has_room}
+use Rattle.std.proofs.Common.{◌≡◌, ℕ, ◌+◌, ◌<◌, true, List, length, sym, ap, ◌∙◌, subst, arith, leb-true, zero-add}
+use Rattle.graphml.specs.State.{State, Sound, opened, has_room}
 use Rattle.text.proofs.Placed.{length_placed}
-
-pub sound_wrote : (s : State) (t : List ℕ) (k : ℕ) → Sound s (length t + k) → Sound (wrote s t) k
-sound_wrote s t k h =
-    let l = length_placed s.bytes s.at t (omega arith) in
-    record { fits = omega arith; few = omega arith }
 
 pub sound_opened : (s : State) (o : List ℕ) (n k : ℕ) → Sound s k → has_room s o n ≡ true → Sound (opened s o n) (n + k)
 sound_opened s o n k h p =
@@ -14,9 +9,11 @@ sound_opened s o n k h p =
     let l = length_placed s.bytes s.at o (omega arith) in
     record { fits = omega arith; few = omega arith }
 
--- after `begin` has written the text t, which is the opening o
-pub begun : {s u : State} {t : List ℕ} (o : List ℕ) (n k : ℕ) → t ≡ o → true ≡ has_room s t n → u ≡ opened s t n → Sound s k → (true ≡ has_room s o n) × (u ≡ opened s o n) × Sound u (n + k)
-begun {s} {u} {t} o n k e p q h =
-    let f = p ∙ ap (λ l. has_room s l n) e in
-    let g = q ∙ ap (λ l. opened s l n) e in
-    (f, g, subst (λ v. Sound v (n + k)) (sym g) (sound_opened s o n k h (sym f)))
+-- after a line that is not empty, one more may be counted
+pub counted : {s u : State} {t : List ℕ} (o : List ℕ) (k : ℕ) → t ≡ o → 0 < length o → true ≡ has_room s t 0 → u ≡ opened s t 0 → Sound s k → Sound u k × (u.happenings + u.edges < u.at)
+counted {s} {u} {t} o k e some p q h =
+    let f = p ∙ ap (λ l. has_room s l 0) e in
+    let g = q ∙ ap (λ l. opened s l 0) e in
+    let x : Sound (opened s o 0) k = subst (Sound (opened s o 0)) (zero-add k) (sound_opened s o 0 k h (sym f)) in
+    let y : (opened s o 0).happenings + (opened s o 0).edges < (opened s o 0).at = omega arith in
+    subst (λ v. Sound v k × (v.happenings + v.edges < v.at)) (sym g) (x, y)

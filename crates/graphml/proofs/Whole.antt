@@ -26,8 +26,8 @@ unfolding head
 length_head = refl
 
 -- the writer before the first byte
-abbrev pub empty : List ℕ → State
-empty out = record { bytes = out; at = 0; room = length out - 275; happenings = 0; edges = 0 }
+abbrev pub empty : ℕ → List ℕ → State
+empty lent out = record { lent = lent; bytes = out; at = 0; room = length out - 275; happenings = 0; edges = 0 }
 
 module _ (out : List ℕ) (log : List Happening) (n : ℕ) (h : 275 ≤ length out) where
   abbrev fit : Forest
@@ -36,25 +36,27 @@ module _ (out : List ℕ) (log : List Happening) (n : ℕ) (h : 275 ≤ length o
   abbrev text : List ℕ
   text = in_frame fit
 
-  pub record Finished (s : State) : Type 0 where
+  pub record Finished (lent : ℕ) (s : State) : Type 0 where
     pub bytes : s.bytes ≡ over text out
     pub at : s.at ≡ length text
     pub happenings : s.happenings ≡ count is_happening fit
     pub edges : s.edges ≡ count is_edge fit
+    pub same : s.lent ≡ lent
 
-  pub finished : {s t u : State} → s ≡ wrote (empty out) head → t ≡ drawn s (body log n) → u ≡ wrote t tail → Finished u
-  finished {s} {t} {u} p q r =
+  pub finished : {lent : ℕ} {s t u : State} → s ≡ wrote (empty lent out) head → t ≡ drawn s (body log n) → u ≡ wrote t tail → Finished lent u
+  finished {lent} {s} {t} {u} p q r =
       let lh = length_head in
       let lp = length_render fit in
       let le = kept_le (length out - 275) (body log n) in
       let l1 = length-append head (render fit) in
       let r1 = reached out 0 head (placed out 0 head) (0 + length head) (render fit) (omega arith) (refl, refl) in
       let r2 = reached out 0 (head ++ render fit) _ _ tail (omega arith) r1 in
-      subst Finished (sym (r ∙ ap (λ x. wrote x tail) (q ∙ ap (λ x. drawn x (body log n)) p))) (record {
+      subst (Finished lent) (sym (r ∙ ap (λ x. wrote x tail) (q ∙ ap (λ x. drawn x (body log n)) p))) (record {
         bytes = r2.0 ∙ ap (λ k. text ++ drop k out) (zero-add (length text));
         at = r2.1 ∙ zero-add (length text);
         happenings = zero-add _;
         edges = zero-add _;
+        same = refl;
       })
 
   enough : leb 275 (length out) ≡ true
@@ -63,7 +65,7 @@ module _ (out : List ℕ) (log : List Happening) (n : ℕ) (h : 275 ≤ length o
   abbrev done : Result Exported Refusal
   done = Ok (summary fit (all_fits (length out - 275) (body log n)))
 
-  pub answered : {s u : State} {r : Bool} → s ≡ wrote (empty out) head → r ≡ all_fits s.room (body log n) → Finished u → ◌≡◌ {A = Result Exported Refusal} (Ok (record { bytes = u.at; happenings = u.happenings; edges = u.edges; whole = r })) (exported log n (length out))
+  pub answered : {lent : ℕ} {s u : State} {r : Bool} → s ≡ wrote (empty lent out) head → r ≡ all_fits s.room (body log n) → Finished lent u → ◌≡◌ {A = Result Exported Refusal} (Ok (record { bytes = u.at; happenings = u.happenings; edges = u.edges; whole = r })) (exported log n (length out))
   answered p w f =
       let all = w ∙ ap (λ x. all_fits x.room (body log n)) p in
       ◌∙◌ {b = done} (λ i. Ok (record { bytes = f.at i; happenings = f.happenings i; edges = f.edges i; whole = all i }))

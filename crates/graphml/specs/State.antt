@@ -6,8 +6,9 @@ use Rattle.graphml.specs.Elements.{Tag, Forest, render}
 use Rattle.graphml.specs.Cut.{kept, cost}
 use Rattle.graphml.specs.Counts.{count, is_happening, is_edge}
 
--- room: the bytes that are neither written nor set aside for the closings of what is open
+-- lent: which loan the bytes come from; room: the bytes that are neither written nor set aside for the closings of what is open
 pub record State : Type 0 where
+  pub lent : ℕ
   pub bytes : List ℕ
   pub at : ℕ
   pub room : ℕ
@@ -15,7 +16,7 @@ pub record State : Type 0 where
   pub edges : ℕ
 
 abbrev pub state : Output → State
-state o = record { bytes = o.bytes.now; at = o.at; room = o.room; happenings = o.happenings; edges = o.edges }
+state o = record { lent = o.bytes.ghost_name; bytes = o.bytes.now; at = o.at; room = o.room; happenings = o.happenings; edges = o.edges }
 
 -- so many bytes are set aside for closings; each counted line has at least a byte
 pub record Sound (o : State) (closings : ℕ) : Type 0 where
@@ -24,7 +25,7 @@ pub record Sound (o : State) (closings : ℕ) : Type 0 where
 
 -- after a text for which there was place
 abbrev pub wrote : State → List ℕ → State
-wrote s t = record { bytes = placed s.bytes s.at t; at = s.at + length t; room = s.room; happenings = s.happenings; edges = s.edges }
+wrote s t = record s { bytes = placed s.bytes s.at t; at = s.at + length t }
 
 -- whether an opening and so many bytes of closing fit
 abbrev pub has_room : State → List ℕ → ℕ → Bool
@@ -32,11 +33,11 @@ has_room s o closing = nat_le (length o + closing) s.room
 
 -- after an opening, with its closing set aside
 abbrev pub opened : State → List ℕ → ℕ → State
-opened s o closing = record { bytes = placed s.bytes s.at o; at = s.at + length o; room = s.room - (length o + closing); happenings = s.happenings; edges = s.edges }
+opened s o closing = record s { bytes = placed s.bytes s.at o; at = s.at + length o; room = s.room - (length o + closing) }
 
 -- after a forest for which there is room
 abbrev pub after : State → Forest → State
-after s f = record { bytes = placed s.bytes s.at (render f); at = s.at + length (render f); room = s.room - cost f; happenings = s.happenings + count is_happening f; edges = s.edges + count is_edge f }
+after s f = record s { bytes = placed s.bytes s.at (render f); at = s.at + length (render f); room = s.room - cost f; happenings = s.happenings + count is_happening f; edges = s.edges + count is_edge f }
 
 -- after what fits of a forest
 abbrev pub drawn : State → Forest → State
@@ -44,4 +45,4 @@ drawn s f = after s (kept s.room f)
 
 -- after an element of that tag is counted
 abbrev pub marked : Tag → State → State
-marked t s = record { bytes = s.bytes; at = s.at; room = s.room; happenings = s.happenings + is_happening t; edges = s.edges + is_edge t }
+marked t s = record s { happenings = s.happenings + is_happening t; edges = s.edges + is_edge t }

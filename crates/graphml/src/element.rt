@@ -1,5 +1,6 @@
 // One token for each open element. Only the closing of its element spends it, and an inner token holds the outer one
 // until it is closed: a token cannot be let go, nor the outer element closed under an open inner one.
+// The output stands beside the tokens: were it in them, a caller would not know what the lent bytes end as.
 ghost use Rattle.std.specs.Prelude.{◌≡◌, is_ok, if◌then◌else◌};
 ghost use Rattle.graphml.specs.Texts.{head, tail, node_line, node_end, graph_line, graph_end};
 ghost use Rattle.graphml.specs.Elements.{one, happened, edge};
@@ -7,7 +8,7 @@ ghost use Rattle.graphml.specs.Cut.{all_fits};
 ghost use Rattle.graphml.specs.State.{state, Sound, wrote, opened, has_room, drawn};
 
 use super::lines;
-use super::output::Output;
+use super::output::{Cut, Output};
 use protocol::happening::Happening;
 
 const HEAD: &[u8] =
@@ -32,11 +33,11 @@ pub struct PartyGraph {
 
 impl RunGraph {
     // The frame's first lines, with bytes set aside for its last ones.
+    #[tactic(auto, unfolding(crate::specs::Texts::head))]
     pub(crate) fn open(out: &mut Output) -> RunGraph
         requires { Sound (state out.old) 275 }
         ensures after { state out.new ≡ wrote (state out.old) head }
         ensures sound { Sound (state out.new) 20 }
-        ensures same { out.new.bytes.ghost_name ≡ out.old.bytes.ghost_name }
     {
         out.write(HEAD);
         RunGraph { open: () }
@@ -48,36 +49,29 @@ impl RunGraph {
         ensures room { is_ok result ≡ has_room (state out.old) (node_line party) 8 }
         ensures after { state out.new ≡ (if is_ok result then opened (state out.old) (node_line party) 8 else state out.old) }
         ensures sound { Sound (state out.new) (if is_ok result then 28 else 20) }
-        ensures same { out.new.bytes.ghost_name ≡ out.old.bytes.ghost_name }
     {
-        let l = lines::node_line(party);
-        if out.begin(l.as_slice(), 8) {
-            Ok(PartyNode { outer: self })
-        } else {
-            Err(self)
+        match out.begin(lines::node_line(party).as_slice(), 8) {
+            Ok(()) => Ok(PartyNode { outer: self }),
+            Err(Cut) => Err(self),
         }
     }
 
     // An edge, if it fits.
-    pub(crate) fn edge(&self, out: &mut Output, source: usize, target: usize) -> bool
+    pub(crate) fn edge(&self, out: &mut Output, source: usize, target: usize) -> Result<(), Cut>
         requires { Sound (state out.old) 20 }
-        ensures whole { result ≡ all_fits out.old.room (one (edge source target)) }
+        ensures whole { is_ok result ≡ all_fits out.old.room (one (edge source target)) }
         ensures after { state out.new ≡ drawn (state out.old) (one (edge source target)) }
         ensures sound { Sound (state out.new) 20 }
-        ensures same { out.new.bytes.ghost_name ≡ out.old.bytes.ghost_name }
     {
-        let l = lines::edge_line(source, target);
-        if !out.begin(l.as_slice(), 0) {
-            return false;
-        }
+        out.begin(lines::edge_line(source, target).as_slice(), 0)?;
         out.edges += 1;
-        true
+        Ok(())
     }
 
+    #[tactic(auto, unfolding(crate::specs::Texts::tail))]
     pub(crate) fn close(self, out: &mut Output)
         requires { Sound (state out.old) 20 }
-        ensures after { state out.new ≡ wrote (state out.old) tail }
-        ensures same { out.new.bytes.ghost_name ≡ out.old.bytes.ghost_name }
+        ensures { state out.new ≡ wrote (state out.old) tail }
     {
         let RunGraph { open: () } = self;
         out.write(TAIL);
@@ -85,19 +79,17 @@ impl RunGraph {
 }
 
 impl PartyNode {
-    // The party's inner graph, or the token back where it does not fit.
+    // The party's inner graph, or the token back where it does not fit. One body for this and `open_node` would take the line,
+    // the closing and both tokens' types from its caller, and be no plainer.
     pub(crate) fn open_graph(self, out: &mut Output, party: u16) -> Result<PartyGraph, PartyNode>
         requires { Sound (state out.old) 28 }
         ensures room { is_ok result ≡ has_room (state out.old) (graph_line party) 9 }
         ensures after { state out.new ≡ (if is_ok result then opened (state out.old) (graph_line party) 9 else state out.old) }
         ensures sound { Sound (state out.new) (if is_ok result then 37 else 28) }
-        ensures same { out.new.bytes.ghost_name ≡ out.old.bytes.ghost_name }
     {
-        let l = lines::graph_line(party);
-        if out.begin(l.as_slice(), 9) {
-            Ok(PartyGraph { outer: self })
-        } else {
-            Err(self)
+        match out.begin(lines::graph_line(party).as_slice(), 9) {
+            Ok(()) => Ok(PartyGraph { outer: self }),
+            Err(Cut) => Err(self),
         }
     }
 
@@ -105,7 +97,6 @@ impl PartyNode {
         requires { Sound (state out.old) 28 }
         ensures after { state out.new ≡ wrote (state out.old) node_end }
         ensures sound { Sound (state out.new) 20 }
-        ensures same { out.new.bytes.ghost_name ≡ out.old.bytes.ghost_name }
     {
         let PartyNode { outer } = self;
         out.write(b"</node>\n");
@@ -114,27 +105,27 @@ impl PartyNode {
 }
 
 impl PartyGraph {
-    // A happening, if it fits.
-    pub(crate) fn happening(&self, out: &mut Output, place: usize, h: Happening) -> bool
+    // A happening, if it fits. Only `?` and a counter would be shared with `edge`, and only a move between the closings.
+    pub(crate) fn happening(
+        &self,
+        out: &mut Output,
+        place: usize,
+        happening: &Happening,
+    ) -> Result<(), Cut>
         requires { Sound (state out.old) 37 }
-        ensures whole { result ≡ all_fits out.old.room (one (happened place h)) }
-        ensures after { state out.new ≡ drawn (state out.old) (one (happened place h)) }
+        ensures whole { is_ok result ≡ all_fits out.old.room (one (happened place happening.now)) }
+        ensures after { state out.new ≡ drawn (state out.old) (one (happened place happening.now)) }
         ensures sound { Sound (state out.new) 37 }
-        ensures same { out.new.bytes.ghost_name ≡ out.old.bytes.ghost_name }
     {
-        let l = lines::happening_line(place, &h);
-        if !out.begin(l.as_slice(), 0) {
-            return false;
-        }
+        out.begin(lines::happening_line(place, happening).as_slice(), 0)?;
         out.happenings += 1;
-        true
+        Ok(())
     }
 
     pub(crate) fn close(self, out: &mut Output) -> PartyNode
         requires { Sound (state out.old) 37 }
         ensures after { state out.new ≡ wrote (state out.old) graph_end }
         ensures sound { Sound (state out.new) 28 }
-        ensures same { out.new.bytes.ghost_name ≡ out.old.bytes.ghost_name }
     {
         let PartyGraph { outer } = self;
         out.write(b"</graph>\n");

@@ -14,7 +14,7 @@ use super::output::Output;
 use protocol::happening::Happening;
 
 // The bytes of the frame.
-const FRAME: usize = 275;
+pub const FRAME: usize = 275;
 
 // Writes the parties 0 to `parties` with their happenings, and an edge for each arrival, as far as the output has room.
 pub fn write_run(log: &[Happening], parties: u8, out: &mut [u8]) -> Result<Exported, Refusal>
@@ -37,19 +37,14 @@ pub fn write_run(log: &[Happening], parties: u8, out: &mut [u8]) -> Result<Expor
         edges: 0,
     };
     let run = RunGraph::open(&mut w);
-    let (run, whole) = write_body(&mut w, run, log, parties);
+    let written = write_body(&mut w, run, log, parties);
+    let whole = written.is_ok();
+    let (Ok(run) | Err(run)) = written;
     run.close(&mut w);
-    let Output {
-        bytes: _,
-        at,
-        room: _,
-        happenings,
-        edges,
-    } = w;
     Ok(Exported {
-        bytes: at,
-        happenings,
-        edges,
+        bytes: w.at,
+        happenings: w.happenings,
+        edges: w.edges,
         whole,
     })
 }

@@ -18,7 +18,7 @@ use Rattle.protocol.specs.declared.kind.GroupKind.{GroupKind}
 use Rattle.protocol.specs.declared.kind.GroupKind.TheVariants.{Closed, Expanding, Dynamic}
 use Rattle.protocol.specs.Patience.{trip, patience}
 use Rattle.protocol.specs.Party.{nobody, fresh, hears_as, answers_as, arrives, heeds, off_leg, off_out, off_reply, off_entry, missed, sends_as, times_as, times_live, calls_in, lost}
-use Rattle.protocol.specs.Group.{Play, the, with_party, delivered_as, lost_as, crashed, counted, shorter, settled_as, any, rounded_as, rounded, round_ends, timed, later}
+use Rattle.protocol.specs.Group.{Play, the, with_party, delivered_as, lost_as, crashed, joins_as, leaves, counted, shorter, settled_as, any, rounded_as, rounded, round_ends, timed, later}
 use Rattle.slots.specs.declared.SlotList.{SlotList}
 use Rattle.group.specs.Sane.{Sane}
 use Rattle.protocol.specs.Views.{play}
@@ -76,7 +76,7 @@ low_missed : (r : Roll) (b : Bool) (m : ℕ) (p : Party) → p.note.roll ≡ r �
 low_missed r b m p e f h = grind (arith, nat_tests)
 
 -- one party is changed
-pub sane_party : (i : ℕ) (p : Party) (t : Table) → Low t.clock p → Sane t → Sane (with_party i p [] t).table
+sane_party : (i : ℕ) (p : Party) (t : Table) → Low t.clock p → Sane t → Sane (with_party i p [] t).table
 sane_party i p t h s = (s.0, s.1, s.2, set_all (Low t.clock) t.parties (i - 1) p nobody h s.3)
 
 pub sane_delivered : (o : Option Beat) (i leg : ℕ) (s : Play) → Sane s.table → Sane (delivered_as o i leg s).table
@@ -91,6 +91,12 @@ sane_lost (Some b) i leg s h = sane_party i _ s.table (low_off leg _ (the i s.ta
 pub sane_crashed : (i : ℕ) (s : Play) → Sane s.table → Sane (crashed i s).table
 sane_crashed zero s h = h
 sane_crashed (suc i) s h = sane_party (suc i) _ s.table (h.3 (suc i - 1)) h
+
+pub sane_joins : (trip i : ℕ) (s : Play) → Sane s.table → Sane (joins_as trip i s).table
+sane_joins trip i s h = sane_party i _ s.table (h.3 (i - 1)) h
+
+pub sane_leaves : (i : ℕ) (s : Play) → Sane s.table → Sane (leaves i s).table
+sane_leaves i s h = sane_party i _ s.table (h.3 (i - 1)) h
 
 -- in the midst of a tick a party may have a miss more than there were ticks
 abbrev Amid : Table → Type 0

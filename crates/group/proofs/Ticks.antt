@@ -1,5 +1,6 @@
 -- A tick out of its two passes.
-use Rattle.std.proofs.Common.{◌≡◌, ℕ, ◌+◌, ◌-◌, ◌<◌, ◌&&◌, leb, List, length, get_or, sym, refl, ap, ◌∙◌, subst, ap₂, arith}
+use Rattle.std.proofs.Common.{◌≡◌, ℕ, ◌+◌, ◌-◌, ◌<◌, ◌&&◌, leb, List, take, false, length, get_or, sym, refl, ap, ◌∙◌, ap₂}
+use Rattle.std.specs.List.{list_any, fold}
 use Rattle.pace.specs.Meaning.{Meaning}
 use Rattle.slots.specs.declared.SlotList.{SlotList}
 use Rattle.slots.specs.Slots.{items}
@@ -10,20 +11,21 @@ use Rattle.protocol.specs.declared.happening.Happening.{Happening}
 use Rattle.protocol.specs.declared.table.Table.{Table}
 use Rattle.protocol.specs.declared.plan.Plan.{Plan}
 use Rattle.protocol.specs.Patience.{trip, patience}
-use Rattle.protocol.specs.Party.{nobody, live, calls_in, times, times_as, times_live}
-use Rattle.protocol.specs.Group.{Play, amid, timer_log, live_log, rounded, timed, later, ticked}
+use Rattle.protocol.specs.Party.{nobody, lost, live, calls_in, times, times_as, times_live}
+use Rattle.protocol.specs.Group.{Play, any, shorter, shortest, started, sent, settled_as, settled, amid, timer_log, live_log, rounded, timed, later, ticked}
 use Rattle.protocol.specs.Views.{play}
+use Rattle.protocol.proofs.Members.{any_take, fold_take}
 use Rattle.protocol.proofs.Walks.{walks_alike}
 use Rattle.dues.specs.Patience.{silent_for, DoesFor}
 use Rattle.group.specs.Views.{Acted}
-use Rattle.group.specs.Passes.{Passed, time_in, time_log_in}
+use Rattle.group.specs.Passes.{Passed, send_in, send_log_in, time_in, time_log_in}
 
 abbrev both : Table → List Happening → Play
 both t log = record { table = t; log = log }
 
 -- the table at the end of a tick
-abbrev pub closing : ℕ → ℕ → Table → Table
-closing clock logged t = record { clock = clock; root = t.root; start = t.start; length = t.length; logged = logged; parties = t.parties }
+abbrev pub closing : ℕ → Table → Table
+closing logged t = record { clock = t.clock + 1; root = t.root; start = t.start; length = t.length; logged = logged; parties = t.parties }
 
 -- a timer by two patiences that end the same parties
 timer_alike : (st : Standing) (clock d e tmin last place i : ℕ) (p : Party) (log : List Happening) →
@@ -48,22 +50,37 @@ timed_alike d e tmin trip n s h =
     (λ i log p q. (alike i log p q).0) (λ i log p q. (alike i log p q).1) 1 n s.log s.table.parties nobody h in
     ap₂ (λ ps log. amid ps log s.table) w.0 w.1
 
+-- nobody has missed every round: the next one starts, and the root sends
+pub sends_is :
+    (m : Meaning) (n rounds w tmin : ℕ) (t t' : Table) (l l' : SlotList Happening) →
+    rounds ≡ length m.waits → list_any (lost rounds) (take n t.parties) ≡ false →
+    w ≡ fold (λ best p. shorter m.waits 0 best p) m.tmax (take n t.parties) → tmin ≡ m.tmin →
+    Passed (send_in (t.clock + tmin)) send_log_in n (started w (play t l)).table t' l l' → Acted n (settled m n) t t' l l'
+sends_is m n rounds w tmin t t' l l' er none ew em p =
+    let old = play t l in
+    let length_is : w ≡ shortest m.waits m.tmax n t.parties = ew ∙ fold_take (λ best q. shorter m.waits 0 best q) 1 n m.tmax t.parties in
+    let goes_on : any (lost (length m.waits)) n t.parties ≡ false =
+    ap (λ (r : ℕ). any (lost r) n t.parties) (sym er) ∙ sym (any_take (lost rounds) n t.parties) ∙ none in
+    record {
+      extends = p.extends;
+      few = p.few;
+      current = p.current;
+      same_clock = ap (λ (u : Table). u.clock) p.after;
+      after =
+          ap₂ both p.after p.log ∙ ap₂ (λ (x y : ℕ). sent (t.clock + x) n (started y old)) em length_is
+          ∙ ap (λ b. settled_as b m n old) (sym goes_on);
+    }
+
 module _ (m : Meaning) (plan : Plan) (t t₁ t₂ : Table) (l l₁ l₂ : SlotList Happening) where
   pub tick_is :
-      (d tmin last n k : ℕ) → DoesFor m plan t₁ d → tmin ≡ m.tmin → last ≡ t.clock + trip m → n ≡ plan.n → k ≡ length (items l₂) →
-      Acted n (rounded m n) t t₁ l l₁ → Passed (time_in d tmin last) (time_log_in d tmin) n t₁ t₂ l₁ l₂ →
-      play (closing (t.clock + 1) k t₂) l₂ ≡ ticked m plan (play t l)
-  tick_is d tmin last n k ed em el en ek a p =
+      (d tmin k : ℕ) → DoesFor m plan t₁ d → tmin ≡ m.tmin → k ≡ length (items l₂) →
+      Acted plan.n (rounded m plan.n) t t₁ l l₁ → Passed (time_in d tmin (t₁.clock + tmin)) (time_log_in d tmin) plan.n t₁ t₂ l₁ l₂ →
+      play (closing k t₂) l₂ ≡ ticked m plan (play t l)
+  tick_is d tmin k ed em ek a p =
       let D = patience m plan.kind in
-      let same : t₁.clock ≡ t.clock = a.same_clock in
-      let still : t₂.clock ≡ t₁.clock = ap (λ (u : Table). u.clock) p.after in
-      let due : last ≡ t₁.clock + trip m = el ∙ ap (λ (c : ℕ). c + trip m) (sym same) in
-      let p₁ = subst (λ (x : ℕ). Passed (time_in d tmin x) (time_log_in d tmin) n t₁ t₂ l₁ l₂) due p in
-      let end : play (closing (t.clock + 1) k t₂) l₂ ≡ later (play t₂ l₂) =
-      ap₂ (λ (c j : ℕ). both (closing (c + 1) j t₂) (items l₂)) (sym (still ∙ same)) ek in
-      let timers : play t₂ l₂ ≡ timed d tmin (trip m) n (play t₁ l₁) = ap₂ both p₁.after p₁.log in
-      let same = timed_alike d D tmin (trip m) n (play t₁ l₁) (λ j h. ed.alike j (omega arith)) in
+      let end : play (closing k t₂) l₂ ≡ later (play t₂ l₂) = ap (λ (j : ℕ). both (closing j t₂) (items l₂)) ek in
+      let timers : play t₂ l₂ ≡ timed d tmin tmin plan.n (play t₁ l₁) = ap₂ both p.after p.log in
+      let same = timed_alike d D tmin tmin plan.n (play t₁ l₁) ed.alike in
       end ∙ ap later (timers ∙ same)
-      ∙ ap (λ (s : Play). later (timed D tmin (trip m) n s)) a.after
-      ∙ ap (λ (y : ℕ). later (timed D y (trip m) n (rounded m n (play t l)))) em
-      ∙ ap (λ (x : ℕ). later (timed (patience m plan.kind) m.tmin (trip m) x (rounded m x (play t l)))) en
+      ∙ ap (λ (s : Play). later (timed D tmin tmin plan.n s)) a.after
+      ∙ ap (λ (y : ℕ). later (timed D y y plan.n (rounded m plan.n (play t l)))) em

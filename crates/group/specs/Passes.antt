@@ -1,5 +1,5 @@
 -- The passes of a tick, one turn at a time.
-use Rattle.std.specs.Prelude.{◌≡◌, ℕ, ◌+◌, ◌-◌, ◌≤◌, Bool, true, false, List, length, Some, None, Option, nat_le, slice_index_or, slice_set}
+use Rattle.std.specs.Prelude.{◌≡◌, ℕ, ◌+◌, ◌-◌, ◌≤◌, Bool, true, false, List, ◌++◌, length, drop, Some, None, Option, nat_le}
 use Rattle.protocol.specs.declared.party.Party.{Party}
 use Rattle.protocol.specs.declared.party.Stage.{Stage}
 use Rattle.protocol.specs.declared.party.Standing.{Standing}
@@ -11,7 +11,7 @@ use Rattle.protocol.specs.declared.table.Table.{Table}
 use Rattle.slots.specs.declared.SlotList.{SlotList}
 use Rattle.slots.specs.Slots.{items, last_time, Extends}
 use Rattle.protocol.specs.Walk.{folds, walks}
-use Rattle.protocol.specs.Party.{nobody, sends, times, calls_in, silent_end}
+use Rattle.protocol.specs.Party.{sends, times, calls_in, silent_end}
 use Rattle.protocol.specs.Group.{send_log, timer_log, ended_word}
 use Rattle.protocol.specs.Runs.{tick_of}
 
@@ -40,14 +40,17 @@ Turn = ℕ → ℕ → List Happening → Party → Party
 abbrev pub Telling : Type 0
 Telling = ℕ → ℕ → List Happening → Party → List Happening
 
--- the turn of the party at place i
-pub record Turned (f : Turn) (g : Telling) (i : ℕ) (t t' : Table) (l l' : SlotList Happening) : Type 0 where
+-- one turn at clock c: f gives the party, g the records, by the records before it
+pub record Turned (f : List Happening → Party → Party) (g : List Happening → Party → List Happening) (c : ℕ) (p p' : Party) (l l' : SlotList Happening) : Type 0 where
   pub extends : Extends l l'
   pub few : l'.len ≤ l.len + 1
-  pub current : last_time tick_of (items l') ≤ t.clock
-  pub many : length t.parties ≡ 32
-  pub log : items l' ≡ g t.clock (1 + i) (items l) (slice_index_or t.parties i nobody)
-  pub after : t' ≡ with_ps (slice_set t.parties i (f t.clock (1 + i) (items l) (slice_index_or t.parties i nobody))) t
+  pub current : last_time tick_of (items l') ≤ c
+  pub log : items l' ≡ g (items l) p
+  pub after : p' ≡ f (items l) p
+
+-- the table with other parties at its first n places
+abbrev pub front : ℕ → Table → List Party → Table
+front n t ps = with_ps (ps ++ drop n t.parties) t
 
 -- the turns of the first n parties, rising
 pub record Passed (f : Turn) (g : Telling) (n : ℕ) (t t' : Table) (l l' : SlotList Happening) : Type 0 where

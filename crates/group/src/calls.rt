@@ -1,4 +1,5 @@
-// The calls of a group. Each puts its questions first; a refusal changes nothing.
+// The calls of a group. Each puts its questions first; a refusal changes nothing. Two that look alike share two lines, and each has a contract of its own.
+// That pace and plan stay is said by every call, since no ghost field can tell what a value was before a call.
 ghost use Rattle.std.specs.Prelude.{◌≡◌, ◌-◌, replicate};
 ghost use Rattle.protocol.specs.Answers.{told};
 ghost use Rattle.protocol.specs.declared.call.Call.TheVariants.{Tick, Deliver, Lose, Crash, Join, Leave};
@@ -37,6 +38,7 @@ impl<P: Pace> Group<P> {
     }
 
     // The beat on a leg of a party arrives.
+    #[tactic(auto, using(crate::proofs::Safe::sane_at, crate::proofs::Safe::sane_delivered))]
     pub fn deliver(
         &mut self,
         log: &mut SlotList<'_, Happening>,
@@ -47,12 +49,13 @@ impl<P: Pace> Group<P> {
         ensures plan { self.new.plan ≡ self.old.plan }
         ensures did { Performed (P.means self.old.pace) self.old.plan (Deliver party leg) self.old.table self.new.table log.old log.new (told result) }
     {
-        let beat = ask_beat(&self.plan, &self.table, log, party, leg)?;
-        do_deliver(&mut self.table, log, party, leg, beat);
+        let (member, beat) = ask_beat(&self.plan, &self.table, log, party, leg)?;
+        do_deliver(&mut self.table, log, member, leg, beat);
         Ok(())
     }
 
     // The beat on a leg of a party is lost.
+    #[tactic(auto, using(crate::proofs::Safe::sane_at, crate::proofs::Safe::sane_lost))]
     pub fn lose(
         &mut self,
         log: &mut SlotList<'_, Happening>,
@@ -63,42 +66,45 @@ impl<P: Pace> Group<P> {
         ensures plan { self.new.plan ≡ self.old.plan }
         ensures did { Performed (P.means self.old.pace) self.old.plan (Lose party leg) self.old.table self.new.table log.old log.new (told result) }
     {
-        let beat = ask_beat(&self.plan, &self.table, log, party, leg)?;
-        do_lose(&mut self.table, log, party, leg, beat);
+        let (member, beat) = ask_beat(&self.plan, &self.table, log, party, leg)?;
+        do_lose(&mut self.table, log, member, leg, beat);
         Ok(())
     }
 
     // The root (party 0) or a party crashes.
+    #[tactic(auto, using(crate::proofs::Safe::sane_at, crate::proofs::Safe::sane_crashed))]
     pub fn crash(&mut self, log: &mut SlotList<'_, Happening>, party: u8) -> Result<(), Refusal>
         ensures pace { self.new.pace ≡ self.old.pace }
         ensures plan { self.new.plan ≡ self.old.plan }
         ensures did { Performed (P.means self.old.pace) self.old.plan (Crash party) self.old.table self.new.table log.old log.new (told result) }
     {
-        ask_crash(&self.plan, &self.table, log, party)?;
-        do_crash(&mut self.table, log, party);
+        let member = ask_crash(&self.plan, &self.table, log, party)?;
+        do_crash(&mut self.table, log, member);
         Ok(())
     }
 
     // An outside party asks to be taken on the roll.
+    #[tactic(auto, using(crate::proofs::Safe::sane_at, crate::proofs::Safe::sane_joins))]
     pub fn join(&mut self, log: &mut SlotList<'_, Happening>, party: u8) -> Result<(), Refusal>
         ensures pace { self.new.pace ≡ self.old.pace }
         ensures plan { self.new.plan ≡ self.old.plan }
         ensures did { Performed (P.means self.old.pace) self.old.plan (Join party) self.old.table self.new.table log.old log.new (told result) }
     {
-        ask_join(&self.plan, &self.table, log, party)?;
+        let member = ask_join(&self.plan, &self.table, log, party)?;
         let trip = self.pace.limits().tmin();
-        do_join(&mut self.table, log, party, trip);
+        do_join(&mut self.table, log, member, trip);
         Ok(())
     }
 
     // A party that is in begins to leave.
+    #[tactic(auto, using(crate::proofs::Safe::sane_at, crate::proofs::Safe::sane_leaves))]
     pub fn leave(&mut self, log: &mut SlotList<'_, Happening>, party: u8) -> Result<(), Refusal>
         ensures pace { self.new.pace ≡ self.old.pace }
         ensures plan { self.new.plan ≡ self.old.plan }
         ensures did { Performed (P.means self.old.pace) self.old.plan (Leave party) self.old.table self.new.table log.old log.new (told result) }
     {
-        ask_leave(&self.plan, &self.table, log, party)?;
-        do_leave(&mut self.table, log, party);
+        let member = ask_leave(&self.plan, &self.table, log, party)?;
+        do_leave(&mut self.table, log, member);
         Ok(())
     }
 

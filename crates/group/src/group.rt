@@ -10,6 +10,6 @@ pub struct Group<P: Pace> {
     pub(crate) pace: P,
     pub(crate) plan: Plan,
     pub(crate) table: Table,
-    // no sum of a call can wrap
+    // no sum of a call can wrap; no ghost field of the table, which stays plain so that an equation pins it
     ghost sane: { Sane table },
 }

@@ -58,10 +58,8 @@ impl<P: Pace> Group<P> {
     pub fn party(&self, party: u8) -> Option<Party>
         ensures { result ≡ seen_party self.now.plan self.now.table party }
     {
-        if party == 0 || party > self.plan.parties() {
-            return None;
-        }
-        Some(self.table.parties[party as usize - 1])
+        let member = self.plan.member(party)?;
+        Some(self.table.parties[member.index()])
     }
 
     // The beat on a leg of a party, by their numbers.

@@ -1,16 +1,17 @@
-// The end of a round, and the whole of a tick.
-ghost use Rattle.std.specs.Prelude.{◌≡◌, ℕ, ◌+◌, ◌*◌, ◌<◌, ◌≤◌};
-ghost use Rattle.slots.specs.Slots.{Extends, items, last_time};
+// The end of a round, and the whole of a tick. Pace, plan and table stay three parameters: as methods of the group, these
+// steps would owe its ghost field between any two of them.
+ghost use Rattle.std.specs.Prelude.{◌≡◌, ◌*◌, ◌<◌, ◌≤◌, take};
+ghost use Rattle.std.specs.List.{list_any, fold};
+ghost use Rattle.slots.specs.Slots.{Extends};
 ghost use Rattle.protocol.specs.Party.{lost};
-ghost use Rattle.protocol.specs.Group.{any, shortest, shorter, settled, rounded, round_ends, ticked};
-ghost use Rattle.protocol.specs.Runs.{tick_of};
+ghost use Rattle.protocol.specs.Group.{shorter, settled, rounded, ticked};
 ghost use Rattle.group.specs.Sane.{Sane};
 ghost use Rattle.protocol.specs.Views.{play, Ready};
 ghost use Rattle.group.specs.Views.{Acted};
 
 use crate::logging::tell;
 use crate::passes::{count_misses, send_all, time_all};
-use dues::patience_for;
+use dues::Timer;
 use pace::Pace;
 use protocol::happening::{Happening, HappeningKind};
 use protocol::party::{Ending, Party, Roll};
@@ -19,95 +20,84 @@ use protocol::table::{Root, Table};
 use slots::SlotList;
 
 // Has a party on the roll missed every round of the pace?
-fn is_any_lost(table: &Table, n: u8, rounds: u32) -> bool
-    requires { n ≤ 32 }
-    ensures { result ≡ any (lost rounds) n table.now.parties }
+fn is_any_lost(plan: &Plan, table: &Table, rounds: u32) -> bool
+    ensures { result ≡ list_any (lost rounds) (take plan.now.n table.now.parties) }
 {
-    let mut any = false;
-    for i in 0..n as usize {
-        any = any | table.parties[i].is_lost(rounds);
-    }
-    any
+    table
+        .members(plan)
+        .iter()
+        .any(|party| party.is_lost(rounds))
 }
 
 // The shortest wait, at their misses, among the parties on the roll, or tmax with none.
-fn next_length<P: Pace>(pace: &P, table: &Table, n: u8) -> u32
-    requires { n ≤ 32 }
-    ensures { result ≡ shortest (P.means pace.now).waits (P.means pace.now).tmax n table.now.parties }
+fn next_length<P: Pace>(pace: &P, plan: &Plan, table: &Table) -> u32
+    ensures { result ≡ fold (λ best p. shorter (P.means pace.now).waits 0 best p) (P.means pace.now).tmax (take plan.now.n table.now.parties) }
 {
-    let mut best = pace.limits().tmax();
-    for i in 0..n as usize {
-        best = shorter_wait(pace, &table.parties[i], best);
-    }
-    best
+    let tmax = pace.limits().tmax();
+    table
+        .members(plan)
+        .iter()
+        .fold(tmax, |best, party| shorter_wait(pace, party, best))
 }
 
 fn shorter_wait<P: Pace>(pace: &P, party: &Party, best: u32) -> u32
     ensures { result ≡ shorter (P.means pace.now).waits 0 best party.now }
 {
-    let Roll::On = party.note.roll else {
-        return best;
-    };
-    match pace.wait(party.note.misses) {
-        Some(wait) => best.min(wait),
-        None => best,
+    match party.note.roll {
+        Roll::On => pace
+            .wait(party.note.misses)
+            .map_or(best, |wait| best.min(wait)),
+        Roll::Off | Roll::Struck => best,
     }
 }
 
 // A round ends: the root stops, or starts the next round and sends.
-fn settle<P: Pace>(pace: &P, table: &mut Table, log: &mut SlotList<'_, Happening>, n: u8)
-    requires { (1 ≤ n) × ((n ≤ 32) × ((table.old.clock ≤ 4000000000) × (Ready log.old table.old.clock n))) }
-    ensures { Acted n (settled (P.means pace.now) n) table.old table.new log.old log.new }
+#[tactic(auto, using(protocol::proofs::Members::any_take))]
+fn settle<P: Pace>(pace: &P, plan: &Plan, table: &mut Table, log: &mut SlotList<'_, Happening>)
+    requires early { table.old.clock ≤ 4000000000 }
+    requires ready { Ready log.old table.old.clock plan.now.n }
+    ensures { Acted plan.now.n (settled (P.means pace.now) plan.now.n) table.old table.new log.old log.new }
 {
     let clock = table.clock;
-    if is_any_lost(table, n, pace.rounds()) {
+    if is_any_lost(plan, table, pace.rounds()) {
         table.root = Root::Down(Ending::Stopped, clock);
         tell(log, clock, 0, HappeningKind::Stopped);
     } else {
-        table.length = next_length(pace, table, n);
+        table.length = next_length(pace, plan, table);
         table.start = clock;
-        send_all(table, log, n, clock + pace.limits().tmin());
+        send_all(plan, table, log, clock + pace.limits().tmin());
     }
 }
 
 // The root acts, where it runs and its round ends.
-fn end_round<P: Pace>(pace: &P, table: &mut Table, log: &mut SlotList<'_, Happening>, n: u8)
-    requires { (1 ≤ n) × ((n ≤ 32) × ((Sane table.old) × (Ready log.old table.old.clock n))) }
-    ensures { Acted n (rounded (P.means pace.now) n) table.old table.new log.old log.new }
+fn end_round<P: Pace>(pace: &P, plan: &Plan, table: &mut Table, log: &mut SlotList<'_, Happening>)
+    requires sane { Sane table.old }
+    requires ready { Ready log.old table.old.clock plan.now.n }
+    ensures { Acted plan.now.n (rounded (P.means pace.now) plan.now.n) table.old table.new log.old log.new }
 {
-    if does_round_end(table) {
-        count_misses(table, n);
-        settle(pace, table, log, n);
-    }
-}
-
-fn does_round_end(table: &Table) -> bool
-    requires { (table.now.start ≤ 4000000000) × (table.now.length ≤ 1000000) }
-    ensures { result ≡ round_ends table.now }
-{
-    match table.root {
-        Root::Running => table.clock == table.start + table.length,
-        Root::Down(..) => false,
+    if table.root == Root::Running && table.clock == table.start + table.length {
+        count_misses(plan, table);
+        settle(pace, plan, table, log);
     }
 }
 
 // A tick that is not refused: the root, then each party's timer, then the clock.
+#[tactic(auto, using(slots::proofs::Growing::extends_trans))]
 pub(crate) fn do_tick<P: Pace>(
     pace: &P,
     plan: &Plan,
     table: &mut Table,
     log: &mut SlotList<'_, Happening>,
 )
-    requires { (table.old.clock < 4000000000) × ((Sane table.old) × (Ready log.old table.old.clock (2 * plan.now.n))) }
+    requires early { table.old.clock < 4000000000 }
+    requires sane { Sane table.old }
+    requires ready { Ready log.old table.old.clock (2 * plan.now.n) }
     ensures extends { Extends log.old log.new }
     ensures after { play table.new log.new ≡ ticked (P.means pace.now) plan.now (play table.old log.old) }
 {
-    let n = plan.parties();
-    let limits = pace.limits();
-    let clock = table.clock;
-    end_round(pace, table, log, n);
-    let patience = patience_for(pace, plan, table);
-    time_all(table, log, n, patience, limits, clock + limits.tmin());
-    table.clock = clock + 1;
+    end_round(pace, plan, table, log);
+    let timer = Timer::at(pace, plan, table);
+    time_all(plan, table, log, timer);
+    table.clock += 1;
     table.logged = log.len();
 }

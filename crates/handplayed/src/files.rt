@@ -5,6 +5,7 @@ use group::Group;
 use protocol::call::{Call, Step};
 use protocol::happening::Happening;
 use protocol::kind::GroupKind;
+use protocol::refusal::Refusal as CallRefusal;
 use rehearsal::{Rehearsal, rehearse};
 use slots::SlotList;
 use std::process::Abort;
@@ -27,17 +28,17 @@ const EMPTY_RUN: &str = r#"<?xml version="1.0" encoding="UTF-8"?>
 </graphml>
 "#;
 
-// The number of a refusal, or the bytes written and whether they are the whole file.
+// The number of a refusal, or the bytes written and whether they are the whole file: in one form, since the worked cases give figures.
 fn figures(answer: Result<Exported, Refusal>) -> (u8, usize, bool) {
-    match answer {
-        Ok(exported) => (0, exported.bytes, exported.whole),
-        Err(refusal) => (refusal.number(), 0, false),
-    }
+    answer.map_or_else(
+        |refusal| (refusal.number(), 0, false),
+        |exported| (0, exported.bytes, exported.whole),
+    )
 }
 
 // The export of a closed group of one party, of pace halving 1, 10, that made no call.
 fn export_empty_run(out: &mut [u8]) -> Result<(u8, usize, bool), Fail> {
-    let mut slots = [BLANK; 1];
+    let mut slots = [Happening::default(); 1];
     let log = SlotList::new(&mut slots);
     let group = Group::open(halving(1, 10)?, pair(GroupKind::Closed)?);
     Ok(figures(export(&group, &log, out)))
@@ -96,15 +97,14 @@ fn rehearsal_puts_each_answer_beside_its_call(rt: HostRuntime) -> Result<(), Fai
         step(Call::Leave(1)),
         step(Call::Tick),
     ];
-    let mut slots = [BLANK; 16];
+    let mut slots = [Happening::default(); 16];
     let mut out = [0u8; 1024];
     assert_eq!(rt;
         rehearse_pair(&rt, &mut steps, &mut slots, &mut out)?,
         (4, (0, 737, true))
     );
-    for i in 0..4 {
-        assert_eq!(rt; number(steps[i].answer), [0, 0, 8, 0][i]);
-    }
+    let answers = steps.map(|step| number(step.answer, CallRefusal::number));
+    assert_eq!(rt; answers, [0, 0, 8, 0]);
     assert_eq!(rt; slots[2].kind.word(), "arrived");
     assert_eq!(rt; slots[2].link, 1);
     Ok(())

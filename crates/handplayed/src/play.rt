@@ -14,18 +14,8 @@ use slots::SlotList;
 use std::process::Abort;
 use std::test::Fail;
 
-pub(crate) const BLANK: Happening = Happening {
-    tick: 0,
-    owner: 0,
-    kind: HappeningKind::Lost,
-    link: 0,
-};
-
 pub(crate) fn limits(tmin: u32, tmax: u32) -> Result<Limits, Fail> {
-    match Limits::new(tmin, tmax) {
-        Ok(limits) => Ok(limits),
-        Err(refusal) => Err(Fail::new(refusal.number())),
-    }
+    Ok(Limits::new(tmin, tmax)?)
 }
 
 pub(crate) fn halving(tmin: u32, tmax: u32) -> Result<Halving, Fail> {
@@ -34,18 +24,14 @@ pub(crate) fn halving(tmin: u32, tmax: u32) -> Result<Halving, Fail> {
 
 // A plan of one party beside the root.
 pub(crate) fn pair(kind: GroupKind) -> Result<Plan, Fail> {
-    match Plan::new(kind, 1) {
-        Ok(plan) => Ok(plan),
-        Err(refusal) => Err(Fail::new(refusal.number())),
-    }
+    Ok(Plan::new(kind, 1)?)
 }
 
-// The number of a refusal, 0 for none.
-pub(crate) fn number(answer: Result<(), Refusal>) -> u8 {
-    match answer {
-        Ok(()) => 0,
-        Err(refusal) => refusal.number(),
-    }
+// The number of a refusal as it tells it, 0 for none: so the worked cases name an answer.
+pub(crate) fn number<R, F: FnOnce(R) -> u8>(answer: Result<(), R>, told: F) -> u8
+    requires { F.IsAlwaysCallable told }
+{
+    answer.err().map_or(0, told)
 }
 
 // What a run of one party came to: the ticks at which the root and the party stopped, if they did, the beats sent, and D.
@@ -53,7 +39,7 @@ pub(crate) fn number(answer: Result<(), Refusal>) -> u8 {
 pub(crate) struct Outcome {
     pub(crate) root_stop: Option<u32>,
     pub(crate) party_stop: Option<u32>,
-    pub(crate) sent: u32,
+    pub(crate) sent: usize,
     pub(crate) patience: u32,
 }
 
@@ -66,15 +52,15 @@ pub(crate) fn play(
     each: &[Call],
     ticks: u32,
 ) -> Result<Outcome, Fail> {
-    let mut slots = [BLANK; 64];
+    let mut slots = [Happening::default(); 64];
     let mut log = SlotList::new(&mut slots);
     let mut group = Group::open(pace, pair(kind)?);
-    assert_eq!(rt; number(group.perform(&mut log, first)), 0);
+    assert_eq!(rt; number(group.perform(&mut log, first), Refusal::number), 0);
     for _ in 0..ticks {
         for call in each {
             let _ = group.perform(&mut log, *call);
         }
-        assert_eq!(rt; number(group.tick(&mut log)), 0);
+        assert_eq!(rt; number(group.tick(&mut log), Refusal::number), 0);
     }
     let sent = count_sent(log.as_slice());
     Ok(Outcome {
@@ -99,12 +85,8 @@ pub(crate) fn party_stop<P: Pace>(group: &Group<P>) -> Option<u32> {
     }
 }
 
-fn count_sent(log: &[Happening]) -> u32 {
-    let mut sent = 0u32;
-    for happening in log {
-        if let HappeningKind::Sent = happening.kind {
-            sent = sent.saturating_add(1);
-        }
-    }
-    sent
+fn count_sent(log: &[Happening]) -> usize {
+    log.iter()
+        .filter(|happening| happening.kind == HappeningKind::Sent)
+        .count()
 }

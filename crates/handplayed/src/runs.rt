@@ -4,6 +4,7 @@ use pace::halving::Halving;
 use protocol::call::Call;
 use protocol::happening::Happening;
 use protocol::kind::GroupKind;
+use protocol::refusal::Refusal;
 use slots::SlotList;
 use std::process::Abort;
 use std::test::Fail;
@@ -72,14 +73,17 @@ fn check_calls(
     log: &mut SlotList<'_, Happening>,
     script: &[(Call, u8)],
 ) {
-    for line in script {
-        assert_eq!(rt; number(group.perform(log, line.0)), line.1);
+    for (call, expected) in script {
+        assert_eq!(rt;
+            number(group.perform(log, *call), Refusal::number),
+            *expected
+        );
     }
 }
 
 #[test]
 fn tick_waits_for_a_due_beat_and_its_reply(rt: HostRuntime) -> Result<(), Fail> {
-    let mut slots = [BLANK; 64];
+    let mut slots = [Happening::default(); 64];
     let mut log = SlotList::new(&mut slots);
     let mut group = Group::open(halving(1, 1)?, pair(GroupKind::Closed)?);
     check_calls(&rt, &mut group, &mut log, &SCRIPT);
@@ -91,10 +95,10 @@ fn tick_waits_for_a_due_beat_and_its_reply(rt: HostRuntime) -> Result<(), Fail> 
 
 #[test]
 fn advancing_stops_where_a_beat_is_due(rt: HostRuntime) -> Result<(), Fail> {
-    let mut slots = [BLANK; 64];
+    let mut slots = [Happening::default(); 64];
     let mut log = SlotList::new(&mut slots);
     let mut group = Group::open(halving(1, 1)?, pair(GroupKind::Closed)?);
-    assert_eq!(rt; number(group.advance(&mut log, 5)), 11);
+    assert_eq!(rt; number(group.advance(&mut log, 5), Refusal::number), 11);
     assert_eq!(rt; group.clock(), 2);
     assert_eq!(rt; group.logged(), 1);
     Ok(())
@@ -102,11 +106,14 @@ fn advancing_stops_where_a_beat_is_due(rt: HostRuntime) -> Result<(), Fail> {
 
 #[test]
 fn advancing_ends_the_party_and_stops_at_the_clocks_limit(rt: HostRuntime) -> Result<(), Fail> {
-    let mut slots = [BLANK; 64];
+    let mut slots = [Happening::default(); 64];
     let mut log = SlotList::new(&mut slots);
     let mut group = Group::open(halving(1, 10)?, pair(GroupKind::Closed)?);
-    assert_eq!(rt; number(group.crash(&mut log, 0)), 0);
-    assert_eq!(rt; number(group.advance(&mut log, u32::MAX)), 10);
+    assert_eq!(rt; number(group.crash(&mut log, 0), Refusal::number), 0);
+    assert_eq!(rt;
+        number(group.advance(&mut log, u32::MAX), Refusal::number),
+        10
+    );
     assert_eq!(rt; group.clock(), 4_000_000_000);
     assert_eq!(rt; party_stop(&group), Some(28));
     Ok(())

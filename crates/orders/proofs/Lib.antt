@@ -1,2 +1,3 @@
 mod Rereading
+mod Records
 pub mod Loads

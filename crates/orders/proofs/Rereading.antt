@@ -5,13 +5,14 @@ use Rattle.std.proofs.lemmas.List.{append_assoc, length-append, get_or-append-ad
 use Rattle.std.proofs.lemmas.Bool.{ne_eqb, le-leb}
 use Rattle.protocol.specs.declared.kind.GroupKind.{GroupKind}
 use Rattle.protocol.specs.declared.kind.GroupKind.TheVariants.{Closed, Expanding, Dynamic}
+use Rattle.protocol.specs.Kinds.{group_kind, group_number}
 use Rattle.orders.specs.declared.order.Order.{Order}
 use Rattle.orders.specs.declared.order.OrderKind.{OrderKind}
 use Rattle.orders.specs.declared.order.OrderKind.TheVariants.{Deliver, Lose, Crash, Join, Leave, Wait}
 use Rattle.orders.specs.declared.start.PaceKind.{PaceKind}
 use Rattle.orders.specs.declared.start.PaceKind.TheVariants.{Halving, TwoPhase}
 use Rattle.orders.specs.declared.start.Start.{Start}
-use Rattle.orders.specs.Kinds.{group_kind, group_number, order_kind, order_number, pace_kind, pace_number}
+use Rattle.orders.specs.Kinds.{order_kind, order_number, pace_kind, pace_number}
 use Rattle.orders.specs.Reading.{order_at, start_at}
 use Rattle.orders.specs.Writing.{order_bytes, start_bytes}
 

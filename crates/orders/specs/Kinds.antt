@@ -1,19 +1,9 @@
--- The byte of each kind, and the kind of each byte.
+-- The number of each order and pace, and what each number stands for.
 use Rattle.std.specs.Prelude.{ℕ, cond, Some, None, Option, ◌==◌}
-use Rattle.protocol.specs.declared.kind.GroupKind.{GroupKind}
-use Rattle.protocol.specs.declared.kind.GroupKind.TheVariants.{Closed, Expanding, Dynamic}
 use Rattle.orders.specs.declared.order.OrderKind.{OrderKind}
 use Rattle.orders.specs.declared.order.OrderKind.TheVariants.{Deliver, Lose, Crash, Join, Leave, Wait}
 use Rattle.orders.specs.declared.start.PaceKind.{PaceKind}
 use Rattle.orders.specs.declared.start.PaceKind.TheVariants.{Halving, TwoPhase}
-
-abbrev pub group_number : GroupKind → ℕ
-group_number Closed = 1
-group_number Expanding = 2
-group_number Dynamic = 3
-
-abbrev pub group_kind : ℕ → Option GroupKind
-group_kind b = cond (b == 1) (Some Closed) (cond (b == 2) (Some Expanding) (cond (b == 3) (Some Dynamic) None))
 
 abbrev pub pace_number : PaceKind → ℕ
 pace_number Halving = 1

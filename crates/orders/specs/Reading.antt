@@ -1,6 +1,7 @@
 -- What the bytes at a place read as.
 use Rattle.std.specs.Prelude.{ℕ, ◌+◌, ◌*◌, Bool, cond, ◌&&◌, List, [], ◌∷◌, length, Some, None, Ok, Err, Option, Result, ◌==◌, nat_le, slice_index}
 use Rattle.protocol.specs.declared.kind.GroupKind.{GroupKind}
+use Rattle.protocol.specs.Kinds.{group_kind}
 use Rattle.orders.specs.declared.fault.ReadCause.{ReadCause}
 use Rattle.orders.specs.declared.fault.ReadCause.TheVariants.{NotWhole, Unknown}
 use Rattle.orders.specs.declared.fault.ReadFault.{ReadFault}
@@ -8,7 +9,7 @@ use Rattle.orders.specs.declared.order.Order.{Order}
 use Rattle.orders.specs.declared.order.OrderKind.{OrderKind}
 use Rattle.orders.specs.declared.start.PaceKind.{PaceKind}
 use Rattle.orders.specs.declared.start.Start.{Start}
-use Rattle.orders.specs.Kinds.{group_kind, order_kind, pace_kind}
+use Rattle.orders.specs.Kinds.{order_kind, pace_kind}
 
 -- the number in four bytes, highest first
 abbrev pub number_at : List ℕ → ℕ → ℕ
@@ -21,6 +22,12 @@ whole mark size bs at =
 
 abbrev pub fault : ℕ → ReadCause → ReadFault
 fault at c = record { byte = at; cause = c }
+
+module _ {X : Type 0} where
+  -- a cause, with the place of its record beside it
+  abbrev pub at_place : ℕ → Result X ReadCause → Result X ReadFault
+  at_place at (Ok x) = Ok x
+  at_place at (Err c) = Err (fault at c)
 
 -- an order by its kind, if that is known
 abbrev pub order_of : List ℕ → ℕ → Option OrderKind → Result (Option Order) ReadFault

@@ -1,9 +1,10 @@
 -- A record as bytes.
 use Rattle.std.specs.Prelude.{ℕ, ◌/◌, ◌%◌, List, [], ◌∷◌, ◌++◌}
 use Rattle.std.specs.List.{flat_map}
+use Rattle.protocol.specs.Kinds.{group_number}
 use Rattle.orders.specs.declared.order.Order.{Order}
 use Rattle.orders.specs.declared.start.Start.{Start}
-use Rattle.orders.specs.Kinds.{group_number, order_number, pace_number}
+use Rattle.orders.specs.Kinds.{order_number, pace_number}
 
 -- four bytes, highest first
 abbrev pub number_bytes : ℕ → List ℕ

@@ -1,10 +1,12 @@
 // What can be wrong with a record of the file.
 ghost use Rattle.std.specs.Prelude.{◌≡◌};
+ghost use Rattle.orders.specs.declared.fault.ReadCause.TheVariants.{Unknown, Append};
 ghost use Rattle.orders.specs.Faults.{fault_number};
 
+use protocol::kind::UnknownKind;
 use slots::refusal::Refusal;
 
-#[derive(Clone, Copy)]
+#[derive(Clone, Copy, Debug, PartialEq, Eq)]
 pub enum ReadCause {
     // bytes are missing, or they do not begin with the mark
     NotWhole,
@@ -14,15 +16,31 @@ pub enum ReadCause {
     Append(Refusal),
 }
 
+impl From<UnknownKind> for ReadCause {
+    ghost from_gives = { λ _ cause. cause ≡ Unknown };
+
+    fn from(_: UnknownKind) -> ReadCause {
+        ReadCause::Unknown
+    }
+}
+
+impl From<Refusal> for ReadCause {
+    ghost from_gives = { λ refusal cause. cause ≡ Append refusal };
+
+    fn from(refusal: Refusal) -> ReadCause {
+        ReadCause::Append(refusal)
+    }
+}
+
 // The first record that is not taken: where it begins, and why.
-#[derive(Clone, Copy)]
+#[derive(Clone, Copy, Debug, PartialEq, Eq)]
 pub struct ReadFault {
     pub byte: usize,
     pub cause: ReadCause,
 }
 
 impl ReadFault {
-    // The number of the question that was answered no.
+    // The number of the question that was answered no. Not a `From`, which would not say so.
     pub fn number(self) -> u8
         ensures { result ≡ fault_number self }
     {

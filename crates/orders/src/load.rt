@@ -4,13 +4,14 @@ ghost use Rattle.std.specs.List.Sorted.{IsNonDecreasingBy};
 ghost use Rattle.slots.specs.Slots.{items, spare, Extends};
 ghost use Rattle.orders.specs.Loading.{loaded, tick_of, WrittenFilesLoad};
 
-use super::fault::{ReadCause, ReadFault};
+use super::fault::ReadFault;
 use super::order::Order;
 use super::reader::Reader;
 use super::start::Start;
 use slots::SlotList;
 
-// The start of the file, or its first fault. The orders before the fault are in the list.
+// The start of the file, or its first fault. The orders before the fault are in the list, which only grows: a clause, since no ghost field tells
+// what it was before.
 pub fn load(bytes: &[u8], list: &mut SlotList<'_, Order>) -> Result<Start, ReadFault>
     ensures answer { result ≡ (loaded bytes.now (items list.old) (spare list.old)).answer }
     ensures items { items list.new ≡ (loaded bytes.now (items list.old) (spare list.old)).items }
@@ -21,16 +22,15 @@ pub fn load(bytes: &[u8], list: &mut SlotList<'_, Order>) -> Result<Start, ReadF
 {
     let mut reader = Reader::new(bytes);
     let start = reader.start()?;
+    // no `while let`: a fault is told by the place before its order is read
     loop {
         let byte = reader.place();
         let Some(order) = reader.order()? else {
             return Ok(start);
         };
-        if let Err(refusal) = list.append(order) {
-            return Err(ReadFault {
-                byte,
-                cause: ReadCause::Append(refusal),
-            });
-        }
+        list.append(order).map_err(|refusal| ReadFault {
+            byte,
+            cause: refusal.into(),
+        })?;
     }
 }

@@ -1,9 +1,11 @@
 // One order of the file.
 ghost use Rattle.std.specs.Prelude.{◌≡◌, ℕ, List, ◌++◌, length, Some, Ok};
+ghost use Rattle.std.specs.Option.{ok_or};
 ghost use Rattle.orders.specs.Kinds.{order_kind, order_number};
 ghost use Rattle.orders.specs.Reading.{order_at};
 ghost use Rattle.orders.specs.Writing.{order_bytes};
 
+use protocol::kind::UnknownKind;
 use slots::timed::Timed;
 
 // The two bytes before each order.
@@ -12,42 +14,45 @@ pub const ORDER_MARK: [u8; 2] = [0x48, 0x4F];
 // How many bytes an order has, with its mark.
 pub const ORDER_SIZE: usize = 9;
 
-#[derive(Clone, Copy)]
+#[derive(Clone, Copy, Debug, Default, PartialEq, Eq)]
 pub enum OrderKind {
     Deliver = 1,
     Lose = 2,
     Crash = 3,
     Join = 4,
     Leave = 5,
+    #[default]
     Wait = 6,
 }
 
-impl OrderKind {
-    // The kind that a byte stands for, if any.
-    pub fn from_byte(byte: u8) -> Option<OrderKind>
-        ensures { result ≡ order_kind byte }
-    {
-        match byte {
-            1 => Some(OrderKind::Deliver),
-            2 => Some(OrderKind::Lose),
-            3 => Some(OrderKind::Crash),
-            4 => Some(OrderKind::Join),
-            5 => Some(OrderKind::Leave),
-            6 => Some(OrderKind::Wait),
-            _ => None,
+impl TryFrom<u8> for OrderKind {
+    type Error = UnknownKind;
+
+    ghost try_from_gives = { λ number r. r ≡ ok_or (order_kind number) (record { 0 = number }) };
+
+    fn try_from(number: u8) -> Result<OrderKind, UnknownKind> {
+        match number {
+            1 => Ok(OrderKind::Deliver),
+            2 => Ok(OrderKind::Lose),
+            3 => Ok(OrderKind::Crash),
+            4 => Ok(OrderKind::Join),
+            5 => Ok(OrderKind::Leave),
+            6 => Ok(OrderKind::Wait),
+            _ => Err(UnknownKind(number)),
         }
     }
+}
 
-    // The byte that stands for the kind.
-    pub fn to_byte(self) -> u8
-        ensures { result ≡ order_number self }
-    {
-        self as u8
+impl From<OrderKind> for u8 {
+    ghost from_gives = { λ kind number. number ≡ order_number kind };
+
+    fn from(kind: OrderKind) -> u8 {
+        kind as u8
     }
 }
 
 // An order to be carried out at its tick. `party` and `leg` mean nothing to a kind that does not use them.
-#[derive(Clone, Copy)]
+#[derive(Clone, Copy, Debug, Default, PartialEq, Eq)]
 pub struct Order {
     pub kind: OrderKind,
     pub party: u8,
@@ -73,7 +78,7 @@ impl Order {
         [
             ORDER_MARK[0],
             ORDER_MARK[1],
-            self.kind.to_byte(),
+            self.kind.into(),
             self.party,
             self.leg,
             a,

@@ -1,12 +1,12 @@
 // Walks the bytes of a file, one record at a time.
-ghost use Rattle.std.specs.Prelude.{◌≡◌, ◌+◌, ◌≤◌, length};
-ghost use Rattle.orders.specs.Reading.{whole, start_at, after_start, order_at, after_order, number_at};
+ghost use Rattle.std.specs.Prelude.{◌≡◌, ◌≤◌, cond, length, take, drop};
+ghost use Rattle.orders.specs.Reading.{whole, start_at, after_start, order_at, after_order, at_place};
 
 use super::fault::{ReadCause, ReadFault};
-use super::order::{ORDER_MARK, ORDER_SIZE, Order, OrderKind};
-use super::start::{PaceKind, START_MARK, START_SIZE, Start, group_kind_from_byte};
+use super::order::{ORDER_MARK, ORDER_SIZE, Order};
+use super::start::{START_MARK, START_SIZE, Start};
 
-// The caller's bytes, and the place of the record that is read next.
+// The caller's bytes, and the place of the record that is read next, which a fault tells.
 #[derive(Drop)]
 pub struct Reader<'a> {
     bytes: &'a [u8],
@@ -34,37 +34,12 @@ impl<'a> Reader<'a> {
         ensures place { self.new.at ≡ after_start result self.old.at }
         ensures bytes { self.new.bytes ≡ self.old.bytes }
     {
-        let at = self.at;
-        let bytes = self.bytes;
-        if !is_whole(bytes, at, START_MARK, START_SIZE) {
-            return Err(ReadFault {
-                byte: at,
-                cause: ReadCause::NotWhole,
-            });
-        }
-        let Some(kind) = group_kind_from_byte(bytes[at + 2]) else {
-            return Err(ReadFault {
-                byte: at,
-                cause: ReadCause::Unknown,
-            });
-        };
-        let Some(pace) = PaceKind::from_byte(bytes[at + 12]) else {
-            return Err(ReadFault {
-                byte: at,
-                cause: ReadCause::Unknown,
-            });
-        };
-        self.at = at + START_SIZE;
-        let tmin = read_number(bytes, at + 4);
-        let tmax = read_number(bytes, at + 8);
-        Ok(Start {
-            kind,
-            parties: bytes[at + 3],
-            tmin,
-            tmax,
-            pace,
-            cap: bytes[at + 13],
-        })
+        let byte = self.at;
+        let start = self
+            .start_here()
+            .map_err(|cause| ReadFault { byte, cause })?;
+        self.at += START_SIZE;
+        Ok(start)
     }
 
     // The order at the reader's place, or none at the end; a fault leaves the reader there.
@@ -73,46 +48,56 @@ impl<'a> Reader<'a> {
         ensures place { self.new.at ≡ after_order result self.old.at }
         ensures bytes { self.new.bytes ≡ self.old.bytes }
     {
-        let at = self.at;
-        let bytes = self.bytes;
-        if at == bytes.len() {
+        let byte = self.at;
+        let order = self
+            .order_here()
+            .map_err(|cause| ReadFault { byte, cause })?;
+        if order.is_some() {
+            self.at += ORDER_SIZE;
+        }
+        Ok(order)
+    }
+
+    // What stands at the reader's place, without going on.
+    fn start_here(&self) -> Result<Start, ReadCause>
+        ensures { at_place self.now.at result ≡ start_at self.now.bytes.now self.now.at }
+    {
+        let record: [u8; START_SIZE] = self.record(START_MARK)?;
+        let [_, _, kind, parties, a, b, c, d, e, f, g, h, pace, cap] = record;
+        Ok(Start {
+            kind: kind.try_into()?,
+            parties,
+            tmin: u32::from_be_bytes([a, b, c, d]),
+            tmax: u32::from_be_bytes([e, f, g, h]),
+            pace: pace.try_into()?,
+            cap,
+        })
+    }
+
+    fn order_here(&self) -> Result<Option<Order>, ReadCause>
+        ensures { at_place self.now.at result ≡ order_at self.now.bytes.now self.now.at }
+    {
+        if self.at == self.bytes.len() {
             return Ok(None);
         }
-        if !is_whole(bytes, at, ORDER_MARK, ORDER_SIZE) {
-            return Err(ReadFault {
-                byte: at,
-                cause: ReadCause::NotWhole,
-            });
-        }
-        let Some(kind) = OrderKind::from_byte(bytes[at + 2]) else {
-            return Err(ReadFault {
-                byte: at,
-                cause: ReadCause::Unknown,
-            });
-        };
-        self.at = at + ORDER_SIZE;
-        let tick = read_number(bytes, at + 5);
+        let record: [u8; ORDER_SIZE] = self.record(ORDER_MARK)?;
+        let [_, _, kind, party, leg, a, b, c, d] = record;
         Ok(Some(Order {
-            kind,
-            party: bytes[at + 3],
-            leg: bytes[at + 4],
-            tick,
+            kind: kind.try_into()?,
+            party,
+            leg,
+            tick: u32::from_be_bytes([a, b, c, d]),
         }))
     }
-}
 
-// Whether `size` bytes stand at a place, the first two being the mark.
-fn is_whole(bytes: &[u8], at: usize, mark: [u8; 2], size: usize) -> bool
-    requires { (at ≤ length bytes.now) × (2 ≤ size) }
-    ensures { result ≡ whole mark size bytes.now at }
-{
-    bytes.len() - at >= size && bytes[at] == mark[0] && bytes[at + 1] == mark[1]
-}
-
-// The number in four bytes, highest first.
-fn read_number(bytes: &[u8], at: usize) -> u32
-    requires { at + 4 ≤ length bytes.now }
-    ensures { result ≡ number_at bytes.now at }
-{
-    u32::from_be_bytes([bytes[at], bytes[at + 1], bytes[at + 2], bytes[at + 3]])
+    // The next `N` bytes, of which the first two have to be the mark.
+    fn record<const N: usize>(&self, mark: [u8; 2]) -> Result<[u8; N], ReadCause>
+        requires { 2 ≤ N }
+        ensures { result ≡ cond (whole mark N self.now.bytes.now self.now.at) (Ok (take N (drop self.now.at self.now.bytes.now))) (Err ReadCause.NotWhole) }
+    {
+        match self.bytes[self.at..].first_chunk() {
+            Some(record) if record.starts_with(&mark) => Ok(*record),
+            _ => Err(ReadCause::NotWhole),
+        }
+    }
 }

@@ -1,10 +1,11 @@
 // The start record of the file: which group is played, and at which pace.
 ghost use Rattle.std.specs.Prelude.{◌≡◌, ℕ, List, ◌++◌, length, Ok};
-ghost use Rattle.orders.specs.Kinds.{group_kind, group_number, pace_kind, pace_number};
+ghost use Rattle.std.specs.Option.{ok_or};
+ghost use Rattle.orders.specs.Kinds.{pace_kind, pace_number};
 ghost use Rattle.orders.specs.Reading.{start_at};
 ghost use Rattle.orders.specs.Writing.{start_bytes};
 
-use protocol::kind::GroupKind;
+use protocol::kind::{GroupKind, UnknownKind};
 
 // The two bytes before the start record.
 pub const START_MARK: [u8; 2] = [0x48, 0x47];
@@ -12,57 +13,36 @@ pub const START_MARK: [u8; 2] = [0x48, 0x47];
 // How many bytes a start record has, with its mark.
 pub const START_SIZE: usize = 14;
 
-#[derive(Clone, Copy)]
+#[derive(Clone, Copy, Debug, PartialEq, Eq)]
 pub enum PaceKind {
     Halving = 1,
     TwoPhase = 2,
 }
 
-impl PaceKind {
-    // The pace that a byte stands for, if any.
-    pub fn from_byte(byte: u8) -> Option<PaceKind>
-        ensures { result ≡ pace_kind byte }
-    {
-        match byte {
-            1 => Some(PaceKind::Halving),
-            2 => Some(PaceKind::TwoPhase),
-            _ => None,
+impl TryFrom<u8> for PaceKind {
+    type Error = UnknownKind;
+
+    ghost try_from_gives = { λ number r. r ≡ ok_or (pace_kind number) (record { 0 = number }) };
+
+    fn try_from(number: u8) -> Result<PaceKind, UnknownKind> {
+        match number {
+            1 => Ok(PaceKind::Halving),
+            2 => Ok(PaceKind::TwoPhase),
+            _ => Err(UnknownKind(number)),
         }
     }
-
-    // The byte that stands for the pace.
-    pub fn to_byte(self) -> u8
-        ensures { result ≡ pace_number self }
-    {
-        self as u8
-    }
 }
 
-// The group kind that a byte stands for, if any.
-pub(crate) fn group_kind_from_byte(byte: u8) -> Option<GroupKind>
-    ensures { result ≡ group_kind byte }
-{
-    match byte {
-        1 => Some(GroupKind::Closed),
-        2 => Some(GroupKind::Expanding),
-        3 => Some(GroupKind::Dynamic),
-        _ => None,
-    }
-}
+impl From<PaceKind> for u8 {
+    ghost from_gives = { λ kind number. number ≡ pace_number kind };
 
-// The byte that stands for a group kind.
-pub(crate) fn group_kind_to_byte(kind: GroupKind) -> u8
-    ensures { result ≡ group_number kind }
-{
-    match kind {
-        GroupKind::Closed => 1,
-        GroupKind::Expanding => 2,
-        GroupKind::Dynamic => 3,
+    fn from(kind: PaceKind) -> u8 {
+        kind as u8
     }
 }
 
 // What a file asks for; whether such limits, cap and plan can be is asked later.
-#[derive(Clone, Copy)]
+#[derive(Clone, Copy, Debug, PartialEq, Eq)]
 pub struct Start {
     pub kind: GroupKind,
     pub parties: u8,
@@ -78,14 +58,12 @@ impl Start {
         ensures written { result ≡ start_bytes self }
         ensures reads_back { (before after : List ℕ) → start_at (before ++ result ++ after) (length before) ≡ Ok self }
     {
-        let kind = group_kind_to_byte(self.kind);
-        let pace = self.pace.to_byte();
         let [a, b, c, d] = self.tmin.to_be_bytes();
         let [e, f, g, h] = self.tmax.to_be_bytes();
         [
             START_MARK[0],
             START_MARK[1],
-            kind,
+            self.kind.into(),
             self.parties,
             a,
             b,
@@ -95,7 +73,7 @@ impl Start {
             f,
             g,
             h,
-            pace,
+            self.pace.into(),
             self.cap,
         ]
     }

@@ -1,5 +1,6 @@
 -- The questions that are put before an act: the number of the first that is answered no, or 0.
-use Rattle.std.specs.Prelude.{ℕ, Bool, true, cond, ◌&&◌, List, [], ◌∷◌, length, ◌==◌, nat_le, slice_index}
+use Rattle.std.specs.Prelude.{ℕ, Bool, cond, ◌&&◌, List, length, ◌==◌, nat_le, slice_index}
+use Rattle.std.specs.List.{list_all}
 
 -- 1: does the pair keep its bounds?
 abbrev pub limits_no : ℕ → ℕ → ℕ
@@ -15,8 +16,7 @@ count_no m = cond (countable m) 0 2
 
 -- does every wait lie from tmin to tmax?
 abbrev pub all_within : ℕ → ℕ → List ℕ → Bool
-all_within tmin tmax [] = true
-all_within tmin tmax (w ∷ ws) = nat_le tmin w && nat_le w tmax && all_within tmin tmax ws
+all_within tmin tmax ws = list_all (λ w. nat_le tmin w && nat_le w tmax) ws
 
 -- 2: the number of waits; then 3: is the first wait tmax? then 4: does every wait lie within the limits?
 abbrev pub waits_no : ℕ → ℕ → List ℕ → ℕ

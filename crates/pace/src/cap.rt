@@ -20,7 +20,8 @@ pub struct Cap<P: Pace> {
 impl<P: Pace> Cap<P> {
     // Starts at 64.
     pub fn new(pace: P) -> Cap<P>
-        ensures { (result.pace ≡ pace) × (result.m ≡ 64) }
+        ensures inner { result.pace ≡ pace }
+        ensures most { result.m ≡ 64 }
     {
         Cap { pace, m: 64 }
     }
@@ -30,7 +31,7 @@ impl<P: Pace> Cap<P> {
         ensures answer { Answered (count_no m) result (λ _. self.new.m ≡ m) (self.new ≡ self.old) }
         ensures below { self.new.pace ≡ self.old.pace }
     {
-        if m < 1 || m > 64 {
+        if !(1..=64).contains(&m) {
             return Err(Refusal::BadCount);
         }
         self.m = m;

@@ -6,7 +6,7 @@ ghost use Rattle.pace.specs.Halves.{halving_lawful};
 use crate::limits::Limits;
 use crate::meaning::Pace;
 
-#[derive(Drop)]
+#[derive(Clone, Copy, Debug, PartialEq, Eq)]
 pub struct Halving {
     limits: Limits,
 }
@@ -41,10 +41,6 @@ impl Pace for Halving {
     }
 
     fn wait(&self, k: u32) -> Option<u32> {
-        if k < self.rounds() {
-            Some(self.limits.tmax() >> k)
-        } else {
-            None
-        }
+        (k < self.rounds()).then(|| self.limits.tmax() >> k)
     }
 }

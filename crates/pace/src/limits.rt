@@ -5,7 +5,7 @@ ghost use Rattle.pace.specs.Questions.{limits_no};
 
 use crate::refusal::Refusal;
 
-#[derive(Clone, Copy)]
+#[derive(Clone, Copy, Debug, PartialEq, Eq)]
 pub struct Limits {
     tmin: u32,
     tmax: u32,
@@ -15,7 +15,7 @@ pub struct Limits {
 }
 
 impl Limits {
-    // Refused unless 1 <= tmin <= tmax <= 1,000,000.
+    // Refused unless 1 <= tmin <= tmax <= 1,000,000. Both fields stand in one clause, since they are what `Answered` says of a granted pair.
     pub fn new(tmin: u32, tmax: u32) -> Result<Limits, Refusal>
         ensures { Answered (limits_no tmin tmax) result (λ l. (l.tmin ≡ tmin) × (l.tmax ≡ tmax)) NothingToKeep }
     {

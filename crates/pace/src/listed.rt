@@ -1,5 +1,5 @@
 // Waits that the caller lists.
-ghost use Rattle.std.specs.Prelude.{◌≡◌, ◌≤◌, [], ◌∷◌, length, take};
+ghost use Rattle.std.specs.Prelude.{◌≡◌, [], ◌∷◌};
 ghost use Rattle.pace.specs.Answers.{Answered};
 ghost use Rattle.pace.specs.Questions.{waits_no, all_within};
 ghost use Rattle.pace.specs.Waits.{between};
@@ -8,59 +8,42 @@ ghost use Rattle.pace.specs.Allowed.{allowed_lawful};
 use crate::limits::Limits;
 use crate::meaning::Pace;
 use crate::refusal::Refusal;
+use crate::wait_list::WaitList;
 
-// The waits are the first `count` of the table.
 #[derive(Drop)]
 pub struct Listed {
     limits: Limits,
-    table: [u32; 64],
-    count: usize,
-    ghost sized: { length table ≡ 64 },
-    ghost few: { count ≤ 64 },
-    ghost allowed: { waits_no limits.tmin limits.tmax (take count table) ≡ 0 },
+    waits: WaitList,
+    ghost allowed: { waits_no limits.tmin limits.tmax waits ≡ 0 },
 }
 
 // Does every wait lie within the limits?
 fn lie_within(waits: &[u32], limits: Limits) -> bool
     ensures { result ≡ all_within limits.tmin limits.tmax waits.now }
 {
-    for w in waits {
-        if *w < limits.tmin() || *w > limits.tmax() {
-            return false;
-        }
-    }
-    true
-}
-
-// The waits at the front of a table.
-fn tabled(waits: &[u32]) -> [u32; 64]
-    requires { length waits.now ≤ 64 }
-    ensures { take (length waits.now) result ≡ waits.now }
-{
-    let mut table = [0u32; 64];
-    table[..waits.len()].copy_from_slice(waits);
-    table
+    waits
+        .iter()
+        .all(|w| limits.tmin() <= *w && *w <= limits.tmax())
 }
 
 impl Listed {
     // Starts as the one wait tmax.
     pub fn new(limits: Limits) -> Listed
-        ensures { (result.limits ≡ limits) × (take result.count result.table ≡ limits.tmax ∷ []) }
+        ensures limits { result.limits ≡ limits }
+        ensures waits { result.waits ≡ limits.tmax ∷ [] }
     {
         Listed {
             limits,
-            table: [limits.tmax(); 64],
-            count: 1,
+            waits: WaitList::one(limits.tmax()),
         }
     }
 
     // Refused, and nothing changed, unless there are 1 to 64 waits, the first is tmax, and each lies within the limits.
     pub fn set(&mut self, waits: &[u32]) -> Result<(), Refusal>
-        ensures answer { Answered (waits_no self.old.limits.tmin self.old.limits.tmax waits.now) result (λ _. take self.new.count self.new.table ≡ waits.now) (self.new ≡ self.old) }
+        ensures answer { Answered (waits_no self.old.limits.tmin self.old.limits.tmax waits.now) result (λ _. self.new.waits ≡ waits.now) (self.new ≡ self.old) }
         ensures limits { self.new.limits ≡ self.old.limits }
     {
-        let n = waits.len();
-        if n < 1 || n > 64 {
+        if !(1..=64).contains(&waits.len()) {
             return Err(Refusal::BadCount);
         }
         if waits[0] != self.limits.tmax() {
@@ -69,31 +52,25 @@ impl Listed {
         if !lie_within(waits, self.limits) {
             return Err(Refusal::BadWait);
         }
-        self.table = tabled(waits);
-        self.count = n;
+        self.waits = WaitList::from_slice(waits);
         Ok(())
     }
 }
 
 impl Pace for Listed {
-    ghost means = { λ s. between s.limits (take s.count s.table) };
+    ghost means = { λ s. between s.limits s.waits };
 
-    ghost lawful = { λ s. allowed_lawful s.limits (take s.count s.table) s.allowed };
+    ghost lawful = { λ s. allowed_lawful s.limits s.waits s.allowed };
 
     fn limits(&self) -> Limits {
         self.limits
     }
 
     fn rounds(&self) -> u32 {
-        self.count as u32
+        self.waits.as_slice().len() as u32
     }
 
     fn wait(&self, k: u32) -> Option<u32> {
-        let i = k as usize;
-        if i < self.count {
-            Some(self.table[i])
-        } else {
-            None
-        }
+        self.waits.as_slice().get(k as usize).copied()
     }
 }

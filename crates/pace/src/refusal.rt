@@ -2,7 +2,7 @@
 ghost use Rattle.std.specs.Prelude.{◌≡◌};
 ghost use Rattle.pace.specs.Answers.{number};
 
-#[derive(Clone, Copy)]
+#[derive(Clone, Copy, Debug, PartialEq, Eq)]
 pub enum Refusal {
     // the pair of limits breaks its bounds
     BadLimits = 1,
@@ -15,6 +15,7 @@ pub enum Refusal {
 }
 
 impl Refusal {
+    // Not a `From`: a byte alone would not say that it is the number of a question.
     pub fn number(self) -> u8
         ensures { result ≡ number self }
     {

@@ -7,11 +7,5 @@ pub fn total<P: Pace>(p: &P) -> u32
     ensures sum { result ≡ sum (P.means p.now).waits }
     ensures small { result ≤ 64000000 }
 {
-    let mut s = 0;
-    for k in 0..p.rounds() {
-        if let Some(w) = p.wait(k) {
-            s += w;
-        }
-    }
-    s
+    (0..p.rounds()).filter_map(|k| p.wait(k)).sum()
 }

@@ -9,7 +9,7 @@ use crate::meaning::Pace;
 // how many waits there are
 const ROUNDS: u32 = 64;
 
-#[derive(Drop)]
+#[derive(Clone, Copy, Debug, PartialEq, Eq)]
 pub struct TwoPhase {
     limits: Limits,
 }
@@ -36,12 +36,10 @@ impl Pace for TwoPhase {
     }
 
     fn wait(&self, k: u32) -> Option<u32> {
-        if k == 0 {
-            Some(self.limits.tmax())
-        } else if k < ROUNDS {
-            Some(self.limits.tmin())
-        } else {
-            None
+        match k {
+            0 => Some(self.limits.tmax()),
+            1..ROUNDS => Some(self.limits.tmin()),
+            _ => None,
         }
     }
 }

@@ -1,7 +1,6 @@
 -- A file that is played, from the group's opening to the output.
-use Rattle.std.proofs.Common.{◌≡◌, ℕ, ◌-◌, ◌≤◌, Bool, true, false, cond, ◌&&◌, leb, List, [], ◌++◌, length, take, drop, IfOk, Ok, Err, Result, sym, refl, ap, ◌∙◌, subst, arith, length-append}
+use Rattle.std.proofs.Common.{◌≡◌, ℕ, zero, suc, ◌-◌, ◌≤◌, Bool, true, false, cond, leb, List, [], ◌++◌, length, take, drop, IfOk, Ok, Err, Result, sym, refl, ap, ◌∙◌, subst, arith, length-append}
 use Rattle.pace.specs.Meaning.{Meaning, Lawful}
-use Rattle.pace.specs.Questions.{count_no}
 use Rattle.slots.specs.declared.SlotList.{SlotList}
 use Rattle.slots.specs.Slots.{items, spare, capacity, Extends}
 use Rattle.slots.proofs.Growing.{items_length, whole, fresh}
@@ -26,13 +25,26 @@ use Rattle.graphml.specs.Answer.{in_frame, part, over, summary}
 use Rattle.graphml.specs.Export.{export_answer, export_bytes}
 use Rattle.graphml.specs.Shown.{ShowsTheRun}
 use Rattle.graphml.proofs.Shown.{shows}
+use Rattle.player.specs.declared.fault.FileFault.{FileFault}
+use Rattle.player.specs.declared.program.Ran.{Ran}
 use Rattle.player.specs.Playing.{Stop, Playing, plays, RunOf}
-use Rattle.player.specs.Program.{parties_no, or_else, cap_and_plan_no, run, KeepsTheRules as KeepsItsRun, Prints, Played, SetUp}
+use Rattle.player.specs.Program.{cap_and_plan_no, run, KeepsTheRules as KeepsItsRun, Prints, Played, SetUp}
+use Rattle.player.specs.Notices.{refused_line}
+use Rattle.player.specs.Told.{bytes_told, lines_told}
+use Rattle.player.specs.Faults.{file_number, TellsOfNoRecord}
 use Rattle.player.proofs.Running.{plays_run}
 
--- both questions are answered yes
-pub none_no : (s : Start) → count_no s.cap ≡ 0 → (leb 1 s.parties && leb s.parties 32) ≡ true → cap_and_plan_no s ≡ 0
-none_no s e f = ap (λ k. or_else k (parties_no s.parties)) e ∙ ap (λ b. cond b 0 5) f
+-- a question is answered no, and nothing was written
+pub not_set_up : (n : ℕ) (m : Meaning) (s : Start) (orders : List Order) (hs : List Happening) (out : List ℕ) (r : Result Ran FileFault) (f : FileFault) →
+    (n ≡ 0 → false ≡ true) → TellsOfNoRecord n f → r ≡ Err f → SetUp n m s orders hs hs out out (bytes_told r) (lines_told r)
+not_set_up zero m s orders hs out r f asked t e = absurd (let h = asked refl in cc)
+not_set_up (suc k) m s orders hs out r f asked t e =
+    record {
+      log = refl;
+      output = refl;
+      no_file = ap bytes_told e;
+      told = ap lines_told e ∙ ap (λ b. refused_line b (file_number f)) t.0 ∙ ap (refused_line 0) t.1;
+    }
 
 -- both questions are answered yes, and the file is played
 pub set_up : (s : Start) (m m' : Meaning) (plan : Plan) (orders : List Order) (hs hs' : List Happening) (out out' : List ℕ) (bytes : ℕ) (lines : List ℕ) →

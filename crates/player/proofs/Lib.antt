@@ -4,4 +4,4 @@ pub mod Playing
 pub mod Running
 pub mod Lengths
 pub mod Files
-pub mod Opening
+pub mod Reading

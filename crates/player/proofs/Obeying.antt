@@ -1,5 +1,5 @@
 -- The calls of one order: its ticks, and then its own.
-use Rattle.std.proofs.Common.{◌≡◌, ℕ, suc, List, [], ◌∷◌, ◌++◌, Some, Option, sym, ap, ◌∙◌}
+use Rattle.std.proofs.Common.{◌≡◌, ℕ, suc, true, false, List, [], ◌∷◌, ◌++◌, Some, Option, Ok, Err, Result, MatchResult, is_ok, sym, refl, ap, ◌∙◌}
 use Rattle.pace.specs.Meaning.{Meaning}
 use Rattle.slots.specs.declared.SlotList.{SlotList}
 use Rattle.slots.specs.Slots.{capacity, Extends}
@@ -16,12 +16,27 @@ use Rattle.protocol.proofs.Making.{some_number, makes_then, makes_no_more, makes
 use Rattle.group.specs.Views.{Made}
 use Rattle.player.specs.declared.play.PlayFault.{PlayFault}
 use Rattle.player.specs.declared.play.PlayFault.TheVariants.{Refused}
-use Rattle.player.specs.Playing.{at_most_one, fault_number}
+use Rattle.player.specs.declared.play.PlayStop.{PlayStop}
+use Rattle.player.specs.Playing.{at_most_one, fault_number, fault_told, stop_told}
 use Rattle.player.proofs.Turns.{Turn}
 
 -- no fault has number 0
 pub some_fault : (f : PlayFault) → (k : ℕ) × (fault_number f ≡ suc k)
 some_fault (Refused e) = some_number e
+
+-- an order with no fault tells 0
+pub no_fault : (r : Result (Unit {0}) PlayFault) → true ≡ is_ok r → fault_told r ≡ 0
+no_fault (Ok u) e = refl
+no_fault (Err f) e = cc
+
+-- a fault stops the playing at its place
+pub stopped : (P : Unit {0} → Type 0) (Q : PlayFault → Type 0) (r : Result (Unit {0}) PlayFault) (place : ℕ) (y : PlayStop) →
+    MatchResult r P Q → ((f : PlayFault) → Q f → y ≡ record { order = place; fault = f }) → false ≡ is_ok r →
+    (k : ℕ) × (fault_told r ≡ suc k) × (stop_told (Err y) ≡ record { order = place; number = suc k })
+stopped P Q (Ok u) place y h made e = cc
+stopped P Q (Err f) place y h made e =
+    let k = some_fault f in
+    (k.0, k.1, ap (λ x. stop_told (Err x)) (made f h) ∙ ap (λ n. record { order = place; number = n }) k.1)
 
 module _ (m : Meaning) (plan : Plan) (xs : List Call) (t t' : Table) (l l' : SlotList Happening) where
   abbrev s : Play

@@ -1,5 +1,5 @@
 -- What is told of a file that is not played.
-use Rattle.std.specs.Prelude.{ℕ}
+use Rattle.std.specs.Prelude.{◌≡◌, ℕ}
 use Rattle.pace.specs.Answers.{number}
 use Rattle.orders.specs.Faults.{fault_number}
 use Rattle.graphml.specs.Answer.{refusal_number}
@@ -19,3 +19,7 @@ file_number (Read f) = fault_number f
 file_number (Pace e) = number e
 file_number (Plan e) = 5
 file_number (Export e) = refusal_number e
+
+-- the number n is told, at the file's first byte, as of what is no record
+abbrev pub TellsOfNoRecord : ℕ → FileFault → Type 0
+TellsOfNoRecord n f = (file_byte f ≡ 0) × (file_number f ≡ n)

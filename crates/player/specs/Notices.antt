@@ -1,7 +1,7 @@
 -- The notice lines, each ended by a line feed.
-use Rattle.std.specs.Prelude.{ℕ, zero, suc, Bool, true, false, List, [], ◌++◌, codes, decimal}
-use Rattle.player.specs.declared.notices.Outcome.{Outcome}
-use Rattle.player.specs.declared.notices.Outcome.TheVariants.{Refused, Played}
+use Rattle.std.specs.Prelude.{ℕ, zero, suc, Bool, true, false, List, [], ◌++◌, Ok, Err, Result, codes, decimal}
+use Rattle.player.specs.declared.notices.PlayedFile.{PlayedFile}
+use Rattle.player.specs.declared.notices.RefusedFile.{RefusedFile}
 use Rattle.player.specs.Playing.{Stop, stop_told}
 
 -- of a file that is not played: the byte place, and the number of the question
@@ -24,6 +24,6 @@ line_of (suc n) order = stopped_line order (suc n)
 abbrev pub stop_line : Stop → List ℕ
 stop_line x = line_of x.number x.order
 
-abbrev pub notice_lines : Outcome → List ℕ
-notice_lines (Refused byte n) = refused_line byte n
-notice_lines (Played cut played) = cut_line cut ++ stop_line (stop_told played)
+abbrev pub notice_lines : Result PlayedFile RefusedFile → List ℕ
+notice_lines (Ok x) = cut_line x.cut ++ stop_line (stop_told x.end)
+notice_lines (Err x) = refused_line x.byte x.number

@@ -11,5 +11,5 @@ bytes_told (Ok x) = x.file_bytes
 bytes_told (Err f) = 0
 
 abbrev pub lines_told : Result Ran FileFault → List ℕ
-lines_told (Ok x) = cut_line x.cut ++ stop_line (stop_told x.played)
+lines_told (Ok x) = cut_line x.told.cut ++ stop_line (stop_told x.told.end)
 lines_told (Err f) = refused_line (file_byte f) (file_number f)

@@ -3,13 +3,14 @@ ghost use Rattle.std.specs.Prelude.{◌≡◌};
 ghost use Rattle.player.specs.declared.fault.FileFault.TheVariants.{Read, Pace, Plan, Export};
 ghost use Rattle.player.specs.Faults.{file_byte, file_number};
 
+use crate::notices::RefusedFile;
 use graphml::answer::Refusal as ExportRefusal;
 use orders::fault::ReadFault;
 use pace::refusal::Refusal as PaceRefusal;
 use protocol::plan::make::BadPartyCount;
 
-#[derive(Clone, Copy)]
-pub(crate) enum FileFault {
+#[derive(Clone, Copy, Debug, PartialEq, Eq)]
+pub enum FileFault {
     // a record of the file
     Read(ReadFault),
     // the limits, or the cap
@@ -63,7 +64,7 @@ impl FileFault {
         }
     }
 
-    // The number of the question that was answered no.
+    // The number of the question that was answered no. Not a `From`, which would not say so.
     pub(crate) fn number(self) -> u8
         ensures { result ≡ file_number self }
     {
@@ -72,6 +73,17 @@ impl FileFault {
             FileFault::Pace(refusal) => refusal.number(),
             FileFault::Plan(refusal) => refusal.number(),
             FileFault::Export(refusal) => refusal.number(),
+        }
+    }
+}
+
+impl From<FileFault> for RefusedFile {
+    ghost from_gives = { λ f x. (x.byte ≡ file_byte f) × (x.number ≡ file_number f) };
+
+    fn from(fault: FileFault) -> RefusedFile {
+        RefusedFile {
+            byte: fault.byte(),
+            number: fault.number(),
         }
     }
 }

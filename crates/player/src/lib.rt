@@ -1,7 +1,9 @@
 // Plays the orders of a file over a group, and tells what came of it.
 #![tactic(auto)]
 
-mod fault;
+pub mod fault;
 pub mod notices;
+pub mod opening;
 pub mod play;
 pub mod program;
+pub mod sizes;

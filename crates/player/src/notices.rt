@@ -1,63 +1,59 @@
 // The lines that tell of a file what its run does not show.
 ghost use Rattle.std.specs.Prelude.{◌≡◌, ◌≤◌, ◌++◌, length};
-ghost use Rattle.text.specs.Lines.{text, padded};
 ghost use Rattle.player.specs.Playing.{fault_number, stop_told};
 ghost use Rattle.player.specs.Notices.{refused_line, cut_line, stopped_line, stop_line, notice_lines};
 
 use crate::play::PlayStop;
 use text::Line;
 
-// What came of a file.
-#[derive(Clone, Copy)]
-pub enum Outcome {
-    // a record, or the group that the file asks for, was refused: nothing is played
-    Refused {
-        byte: usize,
-        number: u8,
-    },
-    // it was played, to its end or to a stop, and the run was exported, whole or cut
-    Played {
-        cut: bool,
-        played: Result<(), PlayStop>,
-    },
+// A file that was played, to its end or to a stop, and whose run was exported, whole or cut.
+#[derive(Clone, Copy, Debug, PartialEq, Eq)]
+pub struct PlayedFile {
+    pub cut: bool,
+    pub end: Result<(), PlayStop>,
 }
 
-// The lines that tell it, the byte places past them 0.
-pub fn notices(outcome: Outcome) -> Line
-    ensures text { text result ≡ notice_lines outcome }
-    ensures bytes { result.bytes ≡ padded (notice_lines outcome) }
-    ensures len { result.len ≡ length (notice_lines outcome) }
+// A file that was not played: a record, or the group that it asks for, was refused.
+#[derive(Clone, Copy, Debug, PartialEq, Eq)]
+pub struct RefusedFile {
+    pub byte: usize,
+    pub number: u8,
+}
+
+// The lines that tell what came of a file. No Display, since they are answered as the bytes of one line with their length.
+pub fn notices(outcome: Result<PlayedFile, RefusedFile>) -> Line
+    ensures { result ≡ notice_lines outcome }
 {
     match outcome {
-        Outcome::Refused { byte, number } => refused(byte, number),
-        Outcome::Played { cut, played } => told(cut, played),
+        Ok(file) => told(file),
+        Err(file) => refused_line(file),
     }
 }
 
-fn refused(byte: usize, number: u8) -> Line
-    ensures { text result ≡ refused_line byte number }
+fn refused_line(file: RefusedFile) -> Line
+    ensures { result ≡ refused_line file.byte file.number }
 {
     let mut line = Line::new();
     line.add(b"refused byte ");
-    line.number(byte as u64);
+    line.number(file.byte as u64);
     line.add(b" number ");
-    line.number(number as u64);
+    line.number(file.number as u64);
     line.add(b"\n");
     line
 }
 
-fn told(cut: bool, played: Result<(), PlayStop>) -> Line
-    ensures { text result ≡ cut_line cut ++ stop_line (stop_told played) }
+fn told(file: PlayedFile) -> Line
+    ensures { result ≡ cut_line file.cut ++ stop_line (stop_told file.end) }
 {
-    let mut lines = told_cut(cut);
-    if let Err(stop) = played {
+    let mut lines = told_cut(file.cut);
+    if let Err(stop) = file.end {
         tell_stop(&mut lines, stop);
     }
     lines
 }
 
 fn told_cut(cut: bool) -> Line
-    ensures { text result ≡ cut_line cut }
+    ensures { result ≡ cut_line cut }
 {
     let mut line = Line::new();
     if cut {
@@ -67,8 +63,8 @@ fn told_cut(cut: bool) -> Line
 }
 
 fn tell_stop(lines: &mut Line, stop: PlayStop)
-    requires { length (text lines.old) ≤ 13 }
-    ensures { text lines.new ≡ text lines.old ++ stopped_line stop.order (fault_number stop.fault) }
+    requires { length lines.old ≤ 13 }
+    ensures { lines.new ≡ lines.old ++ stopped_line stop.order (fault_number stop.fault) }
 {
     lines.add(b"<!-- refused order ");
     lines.number(stop.order as u64);

@@ -1,4 +1,4 @@
-// Plays a list of orders over a group.
+// Plays a list of orders over a group. Group and log stay two parameters, and each function says that pace and plan stay, as the group's calls do.
 ghost use Rattle.std.specs.Prelude.{◌≡◌, ◌-◌, replicate};
 ghost use Rattle.slots.specs.Slots.{items};
 ghost use Rattle.protocol.specs.declared.call.Call.TheVariants.{Tick};
@@ -14,8 +14,8 @@ use protocol::happening::Happening;
 use protocol::refusal::Refusal;
 use slots::SlotList;
 
-// Why the playing of an order ended.
-#[derive(Clone, Copy)]
+// Why the playing of an order ended; a type of its own, that the group's refusal comes inside it unchanged.
+#[derive(Clone, Copy, Debug, PartialEq, Eq)]
 pub enum PlayFault {
     // the group refused a call
     Refused(Refusal),
@@ -30,7 +30,7 @@ impl From<Refusal> for PlayFault {
 }
 
 impl PlayFault {
-    // The number of the question that was answered no.
+    // The number of the question that was answered no. Not a `From`, which would not say so.
     pub fn number(self) -> u8
         ensures { result ≡ fault_number self }
     {
@@ -41,7 +41,7 @@ impl PlayFault {
 }
 
 // The order at which the playing ended, by its place from 0, and why.
-#[derive(Clone, Copy)]
+#[derive(Clone, Copy, Debug, PartialEq, Eq)]
 pub struct PlayStop {
     pub order: usize,
     pub fault: PlayFault,
@@ -104,12 +104,10 @@ pub fn play<P: Pace>(
 {
     let all = orders.as_slice();
     for (place, order) in all.iter().enumerate() {
-        if let Err(fault) = obey(group, log, *order) {
-            return Err(PlayStop {
-                order: place,
-                fault,
-            });
-        }
+        obey(group, log, *order).map_err(|fault| PlayStop {
+            order: place,
+            fault,
+        })?;
     }
     Ok(())
 }

@@ -2,25 +2,22 @@
 ghost use Rattle.std.specs.Prelude.{◌≤◌, length};
 ghost use Rattle.pace.specs.Waits.{capped};
 ghost use Rattle.slots.specs.Slots.{items};
-ghost use Rattle.text.specs.Lines.{text};
 ghost use Rattle.player.specs.Told.{bytes_told, lines_told};
 ghost use Rattle.player.specs.Program.{cap_and_plan_no, SetUp, FileRun};
 
 use crate::fault::FileFault;
-use crate::notices::{Outcome, notices};
-use crate::play::{PlayStop, play};
+use crate::notices::{PlayedFile, RefusedFile, notices};
+use crate::opening::open;
+use crate::play::play;
 use graphml::export::export;
-use group::Group;
 use orders::load::load;
 use orders::order::Order;
 use orders::start::{PaceKind, Start};
 use pace::Pace;
-use pace::cap::Cap;
 use pace::halving::Halving;
 use pace::limits::Limits;
 use pace::two_phase::TwoPhase;
 use protocol::happening::Happening;
-use protocol::plan::Plan;
 use slots::SlotList;
 use text::Line;
 
@@ -32,11 +29,10 @@ pub struct Printed {
 }
 
 // A run that was exported.
-#[derive(Clone, Copy)]
+#[derive(Clone, Copy, Debug, PartialEq, Eq)]
 struct Ran {
     file_bytes: usize,
-    cut: bool,
-    played: Result<(), PlayStop>,
+    told: PlayedFile,
 }
 
 // Reads the file into `order_slots`, plays its orders with the log in `log_slots`, and exports the run into `out`.
@@ -46,28 +42,17 @@ pub fn run_file(
     log_slots: &mut [Happening],
     out: &mut [u8],
 ) -> Printed
-    ensures run { FileRun input.now order_slots.old order_slots.new log_slots.old log_slots.new out.old out.new result.file_bytes (text result.notices) }
+    ensures run { FileRun input.now order_slots.old order_slots.new log_slots.old log_slots.new out.old out.new result.file_bytes result.notices }
     ensures within { result.file_bytes ≤ length out.old }
 {
-    match read_and_play(input, order_slots, log_slots, out) {
-        Ok(ran) => Printed {
-            file_bytes: ran.file_bytes,
-            notices: notices(Outcome::Played {
-                cut: ran.cut,
-                played: ran.played,
-            }),
-        },
-        Err(fault) => Printed {
-            file_bytes: 0,
-            notices: notices(Outcome::Refused {
-                byte: fault.byte(),
-                number: fault.number(),
-            }),
-        },
+    let ran = read_and_play(input, order_slots, log_slots, out);
+    Printed {
+        file_bytes: ran.map_or(0, |ran| ran.file_bytes),
+        notices: notices(ran.map(|ran| ran.told).map_err(RefusedFile::from)),
     }
 }
 
-// The whole file is read before anything is asked of the limits.
+// The whole file is read before anything is asked of the limits. A group holds its pace by value, so each pace has an arm and a group of its own type.
 fn read_and_play(
     input: &[u8],
     order_slots: &mut [Order],
@@ -86,7 +71,7 @@ fn read_and_play(
     }
 }
 
-// The pace is put under the file's cap; a group is opened from it and the file's plan, the orders are played, and then the run is exported.
+// The group that the file asks for is opened, the orders are played, and then the run is exported.
 fn play_at<P: Pace + Drop>(
     pace: P,
     start: Start,
@@ -97,16 +82,15 @@ fn play_at<P: Pace + Drop>(
     ensures run { SetUp (cap_and_plan_no start) (capped start.cap (P.means pace)) start (items orders.now) log_slots.old log_slots.new out.old out.new (bytes_told result) (lines_told result) }
     ensures within { bytes_told result ≤ length out.old }
 {
-    let mut pace = Cap::new(pace);
-    pace.set(start.cap as u32)?;
-    let plan = Plan::new(start.kind, start.parties)?;
+    let mut group = open(pace, start)?;
     let mut log = SlotList::new(log_slots);
-    let mut group = Group::open(pace, plan);
     let played = play(&mut group, orders, &mut log);
     let exported = export(&group, &log, out)?;
     Ok(Ran {
         file_bytes: exported.bytes,
-        cut: !exported.whole,
-        played,
+        told: PlayedFile {
+            cut: !exported.whole,
+            end: played,
+        },
     })
 }

@@ -64,7 +64,7 @@ module _ (μ : Meaning) (sound : Lawful μ) (plan : Plan) where
 
   nobody_stopped : (s : Play) → Whole M plan.kind true plan.n s.table → NobodyStopped plan s
   nobody_stopped s w = record {
-    root_not = λ e is. let k = w.each 0 plan.bounded.0 in absurd (grind arith);
+    root_not = λ e is. let k = w.each 0 plan.some in absurd (grind arith);
     party_not = λ i e g lo hi is. let k = w.each (i - 1) (omega arith) in absurd (grind arith);
   }
 

@@ -541,7 +541,7 @@ module _ (m : Meaning) (plan : Plan) (room : ℕ) where
   empty : (k leg : ℕ) (b : Beat) → k < plan.n → on_leg leg (get_or (opened m plan).table.parties k nobody) ≡ Some b → ⊥
   empty k leg b h e =
       bare plan.kind (eqb leg 1) (eqb leg 2) (eqb leg 3) b
-      (subst (λ p. on_leg leg p ≡ Some b) (get_or-replicate 32 k (fresh plan.kind) nobody (omega (arith, plan.bounded.1))) e)
+      (subst (λ p. on_leg leg p ≡ Some b) (get_or-replicate 32 k (fresh plan.kind) nobody (omega (arith, plan.few))) e)
 
   opens : Now (opened m plan)
   opens = record {
@@ -554,7 +554,7 @@ module _ (m : Meaning) (plan : Plan) (room : ℕ) where
     carried = λ k leg b h e. absurd (empty k leg b h e);
     under_way = λ k leg b h e. absurd (empty k leg b h e);
     apart = λ k leg b k' leg' b' h h' e e' same. absurd (empty k leg b h e);
-    long = omega (arith, plan.bounded.1);
+    long = omega (arith, plan.few);
   }
 
   -- what holds after every run, and the edges of its log

@@ -294,9 +294,9 @@ module _ (μ : Meaning) (sound : Lawful μ) (plan : Plan) (room : ℕ) where
   opens q = record {
     scene = let a = sound.low in let b = sound.ordered in omega arith;
     each = λ k h. subst (λ p. Kept (terms μ plan.kind) plan.kind q 0 Running 0 μ.tmax p)
-        (sym (get_or-replicate 32 k (fresh plan.kind) nobody (omega (arith, plan.bounded.1))))
+        (sym (get_or-replicate 32 k (fresh plan.kind) nobody (omega (arith, plan.few))))
         (step.open_kept (terms μ plan.kind) plan.kind (law μ sound plan.kind plan.n) q);
-    long = omega (arith, plan.bounded.1);
+    long = omega (arith, plan.few);
   }
 
   -- the legs that a call puts beats on are free

@@ -50,7 +50,7 @@ halved tmin tmax = record { tmin = tmin; tmax = tmax; waits = halving tmin tmax 
 
 -- a plan of one party beside the root
 abbrev pub one_party : GroupKind → Plan
-one_party kind = record { kind = kind; n = 1; bounded = (lit≤ tt, lit≤ tt) }
+one_party kind = record { kind = kind; n = 1; some = lit≤ tt; few = lit≤ tt }
 
 -- the ticks of the sendings in a log
 abbrev pub sendings : List Happening → List ℕ

@@ -5,8 +5,9 @@ ghost use Rattle.protocol.specs.Words.{kind_number, word};
 use slots::timed::Timed;
 
 // The ten kinds of happening.
-#[derive(Clone, Copy)]
+#[derive(Clone, Copy, Debug, Default, PartialEq, Eq)]
 pub enum HappeningKind {
+    #[default]
     Sent = 1,
     Arrived = 2,
     Lost = 3,
@@ -19,19 +20,21 @@ pub enum HappeningKind {
     Leaving = 10,
 }
 
-// Their words, in the order of their numbers.
+// Their words, in the order of their numbers: a table, which the export reads.
 const WORDS: [&str; 10] = [
     "sent", "arrived", "lost", "enrolled", "struck", "crashed", "stopped", "left", "joining",
     "leaving",
 ];
 
-impl HappeningKind {
-    pub fn number(self) -> u8
-        ensures { result ≡ kind_number self }
-    {
-        self as u8
-    }
+impl From<HappeningKind> for u8 {
+    ghost from_gives = { λ kind number. number ≡ kind_number kind };
 
+    fn from(kind: HappeningKind) -> u8 {
+        kind as u8
+    }
+}
+
+impl HappeningKind {
     pub fn word(self) -> &'static str
         ensures { result.now ≡ word self }
     {
@@ -41,7 +44,7 @@ impl HappeningKind {
 
 // One step that was logged. `owner` is the party concerned (0 is the root): of an arrival the receiver, of a loss the sender.
 // `link` is the log place of the beat's sending for an arrival or a loss, otherwise the happening's own place.
-#[derive(Clone, Copy)]
+#[derive(Clone, Copy, Debug, Default, PartialEq, Eq)]
 pub struct Happening {
     pub tick: u32,
     pub owner: u8,

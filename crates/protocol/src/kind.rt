@@ -1,10 +1,54 @@
 // Which groups there are.
-#[derive(Clone, Copy)]
+ghost use Rattle.std.specs.Prelude.{◌≡◌};
+ghost use Rattle.std.specs.Option.{ok_or};
+ghost use Rattle.protocol.specs.Kinds.{group_kind, group_number};
+
+use std::fmt;
+
+// Each goes by its number in an order file.
+#[derive(Clone, Copy, Debug, PartialEq, Eq)]
 pub enum GroupKind {
     // everybody is in from the start
-    Closed,
+    Closed = 1,
     // parties may join
-    Expanding,
+    Expanding = 2,
     // parties may join and leave
-    Dynamic,
+    Dynamic = 3,
+}
+
+// A number that stands for no kind.
+#[derive(Clone, Copy, Debug, PartialEq, Eq)]
+pub struct UnknownKind(pub u8);
+
+impl TryFrom<u8> for GroupKind {
+    type Error = UnknownKind;
+
+    ghost try_from_gives = { λ number r. r ≡ ok_or (group_kind number) (record { 0 = number }) };
+
+    fn try_from(number: u8) -> Result<GroupKind, UnknownKind> {
+        match number {
+            1 => Ok(GroupKind::Closed),
+            2 => Ok(GroupKind::Expanding),
+            3 => Ok(GroupKind::Dynamic),
+            _ => Err(UnknownKind(number)),
+        }
+    }
+}
+
+impl From<GroupKind> for u8 {
+    ghost from_gives = { λ kind number. number ≡ group_number kind };
+
+    fn from(kind: GroupKind) -> u8 {
+        kind as u8
+    }
+}
+
+impl fmt::Display for GroupKind {
+    fn fmt<W: fmt::Write>(&self, f: &mut fmt::Formatter<W>) -> fmt::Result {
+        f.write_str(match self {
+            GroupKind::Closed => "closed",
+            GroupKind::Expanding => "expanding",
+            GroupKind::Dynamic => "dynamic",
+        })
+    }
 }

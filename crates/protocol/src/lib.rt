@@ -5,6 +5,7 @@ pub mod call;
 pub mod happening;
 pub mod kind;
 pub mod laws;
+pub mod member;
 pub mod party;
 pub mod plan;
 pub mod refusal;

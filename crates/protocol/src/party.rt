@@ -1,23 +1,45 @@
 // One party of a group, as itself and as the root notes it.
 
+use std::fmt;
+
 // How far a party takes part.
-#[derive(Clone, Copy)]
+#[derive(Clone, Copy, Debug, PartialEq, Eq)]
 pub enum Stage {
     Joining,
     In,
     Leaving,
 }
 
+impl fmt::Display for Stage {
+    fn fmt<W: fmt::Write>(&self, f: &mut fmt::Formatter<W>) -> fmt::Result {
+        f.write_str(match self {
+            Stage::Joining => "joining",
+            Stage::In => "in",
+            Stage::Leaving => "leaving",
+        })
+    }
+}
+
 // How a party or the root has ended; only a leaving party ends as left.
-#[derive(Clone, Copy)]
+#[derive(Clone, Copy, Debug, PartialEq, Eq)]
 pub enum Ending {
     Crashed,
     Stopped,
     Left,
 }
 
+impl fmt::Display for Ending {
+    fn fmt<W: fmt::Write>(&self, f: &mut fmt::Formatter<W>) -> fmt::Result {
+        f.write_str(match self {
+            Ending::Crashed => "crashed",
+            Ending::Stopped => "stopped",
+            Ending::Left => "left",
+        })
+    }
+}
+
 // Where a party stands; one that has ended keeps the tick of its end and its stage before.
-#[derive(Clone, Copy)]
+#[derive(Clone, Copy, Debug, PartialEq, Eq)]
 pub enum Standing {
     Outside,
     Live(Stage),
@@ -25,7 +47,7 @@ pub enum Standing {
 }
 
 // Whether the root sends to the party: only while it is on the roll. A struck party is struck for good.
-#[derive(Clone, Copy)]
+#[derive(Clone, Copy, Debug, PartialEq, Eq)]
 pub enum Roll {
     Off,
     On,
@@ -33,7 +55,7 @@ pub enum Roll {
 }
 
 // A beat on a leg.
-#[derive(Clone, Copy)]
+#[derive(Clone, Copy, Debug, PartialEq, Eq)]
 pub struct Beat {
     // The last tick at which it may be delivered or lost.
     pub last: u32,
@@ -44,7 +66,7 @@ pub struct Beat {
 }
 
 // What the root notes of a party.
-#[derive(Clone, Copy)]
+#[derive(Clone, Copy, Debug, PartialEq, Eq)]
 pub struct Note {
     pub roll: Roll,
     // Heard in the present round.
@@ -54,7 +76,7 @@ pub struct Note {
 }
 
 // What a party knows of itself.
-#[derive(Clone, Copy)]
+#[derive(Clone, Copy, Debug, PartialEq, Eq)]
 pub struct Own {
     pub standing: Standing,
     // The tick when it last heard the root, or joined.
@@ -62,7 +84,7 @@ pub struct Own {
 }
 
 // The beats under way, one at most on each leg.
-#[derive(Clone, Copy)]
+#[derive(Clone, Copy, Debug, PartialEq, Eq)]
 pub struct Legs {
     // Leg 1: out from the root.
     pub out: Option<Beat>,
@@ -72,7 +94,7 @@ pub struct Legs {
     pub entry: Option<Beat>,
 }
 
-#[derive(Clone, Copy)]
+#[derive(Clone, Copy, Debug, PartialEq, Eq)]
 pub struct Party {
     pub note: Note,
     pub own: Own,

@@ -4,11 +4,12 @@ ghost use Rattle.std.specs.Prelude.{◌≤◌};
 use crate::kind::GroupKind;
 
 // The kind of a group, and the number of its parties beside the root: 1 to 32.
-#[derive(Clone, Copy)]
+#[derive(Clone, Copy, Debug, PartialEq, Eq)]
 pub struct Plan {
     kind: GroupKind,
     n: u8,
-    ghost bounded: { (1 ≤ n) × (n ≤ 32) },
+    ghost some: { 1 ≤ n },
+    ghost few: { n ≤ 32 },
 }
 
 pub mod make;

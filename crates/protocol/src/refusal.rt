@@ -2,40 +2,52 @@
 ghost use Rattle.std.specs.Prelude.{◌≡◌};
 ghost use Rattle.protocol.specs.Answers.{refusal_number};
 
-// One for each question, in the order in which the questions are put.
-#[derive(Clone, Copy)]
+use std::fmt;
+
+// One for each question, by its number, in the order in which the questions are put.
+#[derive(Clone, Copy, Debug, PartialEq, Eq)]
 pub enum Refusal {
     // The party is not one of the plan's.
-    NoSuchParty,
+    NoSuchParty = 6,
     // The kind of the group does not allow the call.
-    KindForbids,
+    KindForbids = 7,
     // The party or the root is not in the state that the call wants.
-    WrongState,
+    WrongState = 8,
     // The leg is none of the three, or holds no beat.
-    NoBeat,
+    NoBeat = 9,
     // The clock has come to its end.
-    ClockAtEnd,
+    ClockAtEnd = 10,
     // A beat whose last tick is the clock is still on its leg.
-    BeatDue,
+    BeatDue = 11,
     // The log has not as many free slots as the call may need.
-    NoSlot,
+    NoSlot = 12,
     // The log is not the one that the group wrote.
-    LogDiffers,
+    LogDiffers = 13,
 }
 
 impl Refusal {
+    // Not a `From`: a byte alone would not say that it is the number of a question.
     pub fn number(self) -> u8
         ensures { result ≡ refusal_number self }
     {
-        match self {
-            Refusal::NoSuchParty => 6,
-            Refusal::KindForbids => 7,
-            Refusal::WrongState => 8,
-            Refusal::NoBeat => 9,
-            Refusal::ClockAtEnd => 10,
-            Refusal::BeatDue => 11,
-            Refusal::NoSlot => 12,
-            Refusal::LogDiffers => 13,
-        }
+        self as u8
+    }
+}
+
+// The question that was answered no.
+impl fmt::Display for Refusal {
+    fn fmt<W: fmt::Write>(&self, f: &mut fmt::Formatter<W>) -> fmt::Result {
+        f.write_str(match self {
+            Refusal::NoSuchParty => "is the party one of the plan's?",
+            Refusal::KindForbids => "does the kind of the group allow it?",
+            Refusal::WrongState => "is the party or root in the state that this wants?",
+            Refusal::NoBeat => "is the leg 1 to 3, with a beat on it?",
+            Refusal::ClockAtEnd => "is the clock below 4000000000?",
+            Refusal::BeatDue => {
+                "has each beat whose last tick is the clock been delivered or lost?"
+            }
+            Refusal::NoSlot => "are enough slots of the log free?",
+            Refusal::LogDiffers => "is the log the one that the group wrote?",
+        })
     }
 }

@@ -77,7 +77,7 @@ impl Party {
     pub fn miss(&mut self)
         ensures { self.old.note.misses < 4294967295 → self.new ≡ missed self.old }
     {
-        if let Roll::On = self.note.roll {
+        if self.note.roll == Roll::On {
             self.note.misses = if self.note.heard {
                 0
             } else {
@@ -105,10 +105,7 @@ impl Party {
     pub fn is_lost(&self, rounds: u32) -> bool
         ensures { result ≡ lost rounds self.now }
     {
-        match self.note.roll {
-            Roll::On => self.note.misses == rounds,
-            Roll::Off | Roll::Struck => false,
-        }
+        self.note.roll == Roll::On && self.note.misses == rounds
     }
 
     // The party's timer. Patience comes first: a party that ends sends nothing. `last` is the last tick of a joining beat that goes out.
@@ -135,10 +132,7 @@ impl Party {
     pub fn is_live(&self) -> bool
         ensures { result ≡ live self.now.own.standing }
     {
-        match self.own.standing {
-            Standing::Live(_) => true,
-            Standing::Outside | Standing::Ended(..) => false,
-        }
+        matches!(self.own.standing, Standing::Live(_))
     }
 
     // The beat on a leg, by the leg's number.
@@ -171,7 +165,7 @@ impl Party {
         self.take_off(leg);
         if leg == 1 {
             let _ = self.hear(clock, beat, place);
-        } else if let Root::Running = root {
+        } else if root == Root::Running {
             self.answer(beat.parting);
         }
     }
@@ -200,8 +194,5 @@ impl Party {
 fn is_due_on(clock: u32, leg: Option<Beat>) -> bool
     ensures { result ≡ due_on clock leg }
 {
-    match leg {
-        Some(beat) => beat.last == clock,
-        None => false,
-    }
+    leg.is_some_and(|beat| beat.last == clock)
 }

@@ -1,14 +1,17 @@
 // All that a group changes.
+ghost use Rattle.std.specs.Prelude.{◌≡◌, take};
+
 use crate::party::{Ending, Party};
+use crate::plan::Plan;
 
 // The root runs, or it is down: how it ended, and the clock at its end.
-#[derive(Clone, Copy)]
+#[derive(Clone, Copy, Debug, PartialEq, Eq)]
 pub enum Root {
     Running,
     Down(Ending, u32),
 }
 
-#[derive(Clone, Copy)]
+#[derive(Clone, Copy, Debug, PartialEq, Eq)]
 pub struct Table {
     pub clock: u32,
     pub root: Root,
@@ -18,6 +21,15 @@ pub struct Table {
     pub length: u32,
     // How many records the group has written into its log.
     pub logged: usize,
-    // Party i stands at place i - 1; a plan of fewer parties leaves the others as they are.
+    // Party i stands at place i - 1; a plan of fewer parties leaves the others as they are. A fixed table, since opening a group never refuses.
     pub parties: [Party; 32],
+}
+
+impl Table {
+    // The parties that a plan has, rising.
+    pub fn members(&self, plan: &Plan) -> &[Party]
+        ensures { result.now ≡ take plan.now.n self.now.parties }
+    {
+        &self.parties[..plan.parties() as usize]
+    }
 }

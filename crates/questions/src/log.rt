@@ -11,6 +11,7 @@ use protocol::table::Table;
 use slots::SlotList;
 
 // Are so many slots free, and is this the log that the group wrote?
+#[tactic(auto, using(slots::proofs::Growing::items_length))]
 pub(crate) fn ask_log(
     table: &Table,
     log: &SlotList<'_, Happening>,

@@ -1,9 +1,9 @@
 // The questions before a tick.
-ghost use Rattle.std.specs.Prelude.{◌≡◌, ◌*◌, ◌≤◌, OnOk};
+ghost use Rattle.std.specs.Prelude.{◌≡◌, ◌*◌, OnOk, take};
+ghost use Rattle.std.specs.List.{list_any};
 ghost use Rattle.slots.specs.Slots.{capacity};
 ghost use Rattle.protocol.specs.Answers.{told};
 ghost use Rattle.protocol.specs.Party.{due};
-ghost use Rattle.protocol.specs.Group.{any};
 ghost use Rattle.protocol.specs.Runs.{number};
 ghost use Rattle.protocol.specs.Views.{play, Ready};
 ghost use Rattle.protocol.specs.declared.call.Call.TheVariants.{Tick};
@@ -15,6 +15,7 @@ use protocol::refusal::Refusal;
 use protocol::table::Table;
 use slots::SlotList;
 
+#[tactic(auto, using(protocol::proofs::Members::any_take))]
 pub fn ask_tick(plan: &Plan, table: &Table, log: &SlotList<'_, Happening>) -> Result<(), Refusal>
     ensures number { told result ≡ number plan.now (capacity log.now) Tick (play table.now log.now) }
     ensures ready { OnOk result (Ready log.now table.now.clock (2 * plan.now.n)) }
@@ -22,19 +23,17 @@ pub fn ask_tick(plan: &Plan, table: &Table, log: &SlotList<'_, Happening>) -> Re
     if table.clock >= 4_000_000_000 {
         return Err(Refusal::ClockAtEnd);
     }
-    if is_any_due(table, plan.parties()) {
+    if is_any_due(plan, table) {
         return Err(Refusal::BeatDue);
     }
     ask_log(table, log, 2 * plan.parties() as usize)
 }
 
-fn is_any_due(table: &Table, n: u8) -> bool
-    requires { n ≤ 32 }
-    ensures { result ≡ any (due table.now.clock) n table.now.parties }
+fn is_any_due(plan: &Plan, table: &Table) -> bool
+    ensures { result ≡ list_any (due table.now.clock) (take plan.now.n table.now.parties) }
 {
-    let mut any = false;
-    for i in 0..n as usize {
-        any = any | table.parties[i].is_due(table.clock);
-    }
-    any
+    table
+        .members(plan)
+        .iter()
+        .any(|party| party.is_due(table.clock))
 }

@@ -35,9 +35,8 @@ pub fn rehearse<P: Pace>(
 {
     let mut log = SlotList::new(slots);
     let mut group = Group::open(pace, plan);
-    for i in 0..steps.len() {
-        let call = steps[i].call;
-        steps[i].answer = group.perform(&mut log, call);
+    for step in steps.iter_mut() {
+        step.answer = group.perform(&mut log, step.call);
     }
     let exported = export(&group, &log, out);
     let records = log.len();

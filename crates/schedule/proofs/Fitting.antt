@@ -15,7 +15,6 @@ use Rattle.schedule.specs.Words.{number, group_word, pace_word, order_word, only
 use Rattle.schedule.specs.Records.{due, due_if, behind_if, over, and_then, has_party, has_leg, start_behind, order_behind, start_in, order_in}
 use Rattle.schedule.specs.Texts.{Reading, ended, appended, order_met, orders_from, start_met, lines_from}
 use Rattle.schedule.proofs.Numbers.{number_le}
-use Rattle.schedule.proofs.Stages.{to_pace, to_tmin, to_tmax, to_cap, to_number, to_end, to_party, to_leg, to_last}
 use Rattle.schedule.proofs.Taking.{due_le}
 
 -- what was read, where all came to a good end
@@ -29,28 +28,27 @@ start_behind_fits kind w0 s e =
     let w1 = behind w0 in
     let w2 = behind w1 in
     let w3 = behind w2 in
-    let w4 = behind w3 in
-    let w5 = behind w4 in
-    let w6 = behind w5 in
-    let p0 = passed (due (number 255) w0) (λ x. to_pace kind x w1) s e in
-    let p1 = passed (due pace_word w1) (λ x. to_tmin kind p0.0 x w2) s p0.2 in
-    let p2 = passed (due (number 4294967295) w2) (λ x. to_tmax kind p0.0 p1.0 x w3) s p1.2 in
-    let p3 = passed (due (number 4294967295) w3) (λ x. to_cap kind p0.0 p1.0 p2.0 x w4) s p2.2 in
-    let p4 = passed (due (only (codes "cap")) w4) (λ x. to_number kind p0.0 p1.0 p2.0 p3.0 w5) s p3.2 in
-    let p5 = passed (due (number 255) w5) (λ x. to_end kind p0.0 p1.0 p2.0 p3.0 x w6) s p4.2 in
-    let t : Start = record { kind = kind; parties = p0.0; tmin = p2.0; tmax = p3.0; pace = p1.0; cap = p5.0 } in
-    let p6 = passed (over w6) (λ u. Ok t) s p5.2 in
-    fits t s p6.2 (due_le 255 w0 p0.0 p0.1) (due_le 4294967295 w2 p2.0 p2.1) (due_le 4294967295 w3 p3.0 p3.1) (due_le 255 w5 p5.0 p5.1)
-  where
-    fits : (t s : Start) → ◌≡◌ {A = Result Start Cause} (Ok t) (Ok s) → t.parties ≤ 255 → t.tmin ≤ 4294967295 → t.tmax ≤ 4294967295 → t.cap ≤ 255 → StartFits s
-    fits t s e a b c d = let z : t ≡ s = cc in subst (λ (x : Start). StartFits x) z (omega arith, omega arith, omega arith, omega arith)
+    let w5 = behind (behind w3) in
+    let p0 = passed (due (number 255) w0) _ s e in
+    let p1 = passed (due pace_word w1) _ s p0.2 in
+    let p2 = passed (due (number 4294967295) w2) _ s p1.2 in
+    let p3 = passed (due (number 4294967295) w3) _ s p2.2 in
+    let p4 = passed (due (only (codes "cap")) (behind w3)) _ s p3.2 in
+    let p5 = passed (due (number 255) w5) _ s p4.2 in
+    let p6 = passed (over (behind w5)) _ s p5.2 in
+    let a = due_le 255 w0 p0.0 p0.1 in
+    let b = due_le 4294967295 w2 p2.0 p2.1 in
+    let c = due_le 4294967295 w3 p3.0 p3.1 in
+    let d = due_le 255 w5 p5.0 p5.1 in
+    let z : record { kind = kind; parties = p0.0; tmin = p2.0; tmax = p3.0; pace = p1.0; cap = p5.0 } ≡ s = let last = p6.2 in cc in
+    subst (λ (x : Start). StartFits x) z (omega arith, omega arith, omega arith, omega arith)
 
 pub start_fits : (ws : List (List ℕ)) (s : Start) → start_in ws ≡ Ok (Some s) → StartFits s
 unfolding start_in
 start_fits [] s e = absurd (let z : ◌≡◌ {A = ℕ} 0 1 = cc in omega arith)
 start_fits (w ∷ ws) s e =
-    let p = passed (group_word w) (λ kind. and_then (start_behind kind ws) (λ s. Ok (Some s))) (Some s) e in
-    let q = passed (start_behind p.0 ws) (λ s. Ok (Some s)) (Some s) p.2 in
+    let p = passed (group_word w) _ (Some s) e in
+    let q = passed (start_behind p.0 ws) _ (Some s) p.2 in
     let z : q.0 ≡ s = let h = q.2 in cc in
     subst (λ (x : Start). StartFits x) z (start_behind_fits p.0 ws q.0 q.1)
 
@@ -62,26 +60,24 @@ due_if_le false ws n e = let z : 0 ≡ n = cc in omega arith
 order_behind_fits : (tick : ℕ) (w0 : List (List ℕ)) (o : Order) → tick ≤ 4294967295 → order_behind tick w0 ≡ Ok o → OrderFits o
 unfolding order_behind
 order_behind_fits tick w0 o le e =
-    let p0 = passed (due order_word w0) (λ x. to_party tick x (behind w0)) o e in
+    let p0 = passed (due order_word w0) _ o e in
     let k = p0.0 in
     let w1 = behind w0 in
     let w2 = behind_if (has_party k) w1 in
-    let w3 = behind_if (has_leg k) w2 in
-    let p1 = passed (due_if (has_party k) w1) (λ x. to_leg tick k x w2) o p0.2 in
-    let p2 = passed (due_if (has_leg k) w2) (λ x. to_last tick k p1.0 x w3) o p1.2 in
-    let t : Order = record { kind = k; party = p1.0; leg = p2.0; tick = tick } in
-    let p3 = passed (over w3) (λ u. Ok t) o p2.2 in
-    fits t o p3.2 (due_if_le (has_party k) w1 p1.0 p1.1) (due_if_le (has_leg k) w2 p2.0 p2.1) le
-  where
-    fits : (t o : Order) → ◌≡◌ {A = Result Order Cause} (Ok t) (Ok o) → t.party ≤ 255 → t.leg ≤ 255 → t.tick ≤ 4294967295 → OrderFits o
-    fits t o e a b c = let z : t ≡ o = cc in subst (λ (x : Order). OrderFits x) z (omega arith, omega arith, omega arith)
+    let p1 = passed (due_if (has_party k) w1) _ o p0.2 in
+    let p2 = passed (due_if (has_leg k) w2) _ o p1.2 in
+    let p3 = passed (over (behind_if (has_leg k) w2)) _ o p2.2 in
+    let a = due_if_le (has_party k) w1 p1.0 p1.1 in
+    let b = due_if_le (has_leg k) w2 p2.0 p2.1 in
+    let z : record { kind = k; party = p1.0; leg = p2.0; tick = tick } ≡ o = let last = p3.2 in cc in
+    subst (λ (x : Order). OrderFits x) z (omega arith, omega arith, omega arith)
 
 pub order_fits : (ws : List (List ℕ)) (o : Order) → order_in ws ≡ Ok (Some o) → OrderFits o
 unfolding order_in
 order_fits [] o e = absurd (let z : ◌≡◌ {A = ℕ} 0 1 = cc in omega arith)
 order_fits (w ∷ ws) o e =
-    let p = passed (number 4294967295 w) (λ tick. and_then (order_behind tick ws) (λ o. Ok (Some o))) (Some o) e in
-    let q = passed (order_behind p.0 ws) (λ o. Ok (Some o)) (Some o) p.2 in
+    let p = passed (number 4294967295 w) _ (Some o) e in
+    let q = passed (order_behind p.0 ws) _ (Some o) p.2 in
     let z : q.0 ≡ o = let h = q.2 in cc in
     subst (λ (x : Order). OrderFits x) z (order_behind_fits p.0 ws q.0 (number_le 4294967295 w p.0 p.1) q.1)
 

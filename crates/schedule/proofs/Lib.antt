@@ -4,7 +4,6 @@ mod Lengths
 mod Numbers
 mod Pieces
 mod Rendered
-mod Stages
 mod Taking
 mod Walks
 mod Whole

@@ -1,20 +1,16 @@
 -- Cutting bytes in two.
-use Rattle.std.proofs.Common.{◌≡◌, ℕ, suc, ◌+◌, ◌<◌, ◌≤◌, Bool, true, false, cond, List, [], ◌∷◌, length, get_or, take, drop, sym, refl, ap, ◌∙◌, arith}
-use Rattle.std.proofs.lemmas.List.{drop_more, drop_all, take_all}
+use Rattle.std.proofs.Common.{◌≡◌, ℕ, suc, ◌+◌, ◌<◌, ◌≤◌, Bool, true, false, cond, not, ltb, List, [], ◌∷◌, length, take, drop, Some, None, sym, refl, ap, ◌∙◌, arith}
+use Rattle.std.proofs.lemmas.List.{drop_all, take_all}
+use Rattle.std.proofs.lemmas.Bool.Decides.{nat_tests}
+use Rattle.std.specs.List.{position_or_len}
 use Rattle.schedule.specs.Cuts.{until, past, onto, pieces}
 
 module _ (m : ℕ → Bool) where
-  -- a search from place i on: a mark there ends it
-  pub found : (bs : List ℕ) (i n : ℕ) → i < length bs → m (get_or bs i 0) ≡ true → n ≡ i + length (until m (drop i bs)) → i ≡ n
-  found bs i n h e s = let d = drop_more bs i 0 h in sym (s ∙ rw (d, e) (omega arith))
-
-  -- any other byte is passed
-  pub not_yet : (bs : List ℕ) (i n : ℕ) → i < length bs → m (get_or bs i 0) ≡ false → n ≡ i + length (until m (drop i bs)) → n ≡ (i + 1) + length (until m (drop (i + 1) bs))
-  not_yet bs i n h e s = let d = drop_more bs i 0 h in s ∙ rw (d, e) (omega arith)
-
-  -- the end of the bytes ends it too
-  pub not_found : (bs : List ℕ) (i n : ℕ) → length bs ≤ i → n ≡ i + length (until m (drop i bs)) → i ≡ n
-  not_found bs i n h s = let d = drop_all i bs h in sym (s ∙ rw d (omega arith))
+  -- the first mark stands behind the bytes before it
+  pub place_of_mark : (bs : List ℕ) → position_or_len m bs ≡ length (until m bs)
+  place_of_mark [] = refl
+  place_of_mark (b ∷ bs) =
+      elim (m b) as (λ t. cond (not t) (1 + position_or_len m bs) 0 ≡ length (cond t [] (b ∷ until m bs))) [ true ↦ refl | false ↦ let e = place_of_mark bs in omega arith ]
 
   pub until_le : (bs : List ℕ) → length (until m bs) ≤ length bs
   until_le [] = omega arith
@@ -35,9 +31,14 @@ module _ (m : ℕ → Bool) where
   after_mark (b ∷ bs) =
       elim (m b) as (λ t. drop (length (cond t [] (b ∷ until m bs))) bs ≡ cond t bs (past m bs)) [ true ↦ refl | false ↦ after_mark bs ]
 
+  no_place : (n l : ℕ) → cond (ltb n l) (Some n) None ≡ None → l ≤ n
+  no_place n l e = grind (arith, nat_tests)
+
   -- where no byte is a mark, all stand before it
-  pub no_mark : (bs : List ℕ) → length (until m bs) ≡ length bs → (bs ≡ until m bs) × ([] ≡ past m bs)
-  no_mark bs e =
+  pub no_mark : (bs : List ℕ) → cond (ltb (position_or_len m bs) (length bs)) (Some (position_or_len m bs)) None ≡ None → (bs ≡ until m bs) × ([] ≡ past m bs)
+  no_mark bs none =
+      let e = place_of_mark bs in
+      let le = no_place (position_or_len m bs) (length bs) none in
       (sym (take_all (length (until m bs)) bs (omega arith)) ∙ before_mark bs, sym (drop_all (suc (length (until m bs))) bs (omega arith)) ∙ after_mark bs)
 
   past_le : (bs : List ℕ) → length (past m bs) ≤ length bs

@@ -22,13 +22,11 @@ use Rattle.orders.specs.declared.start.PaceKind.TheVariants.{Halving, TwoPhase}
 use Rattle.orders.specs.declared.start.Start.{Start}
 use Rattle.orders.specs.Loading.{tick_of, StartFits, OrderFits, InOrder}
 use Rattle.schedule.specs.declared.complaint.Cause.TheVariants.{NotANumber, NumberTooLarge}
-use Rattle.schedule.specs.declared.cut.Mark.TheVariants.{LineEnd, Comment, Blank}
-use Rattle.schedule.specs.Cuts.{marks, until, past, lines_in, words_in, line_words, behind}
+use Rattle.schedule.specs.Cuts.{begins_comment, ends_line, is_blank, until, past, lines_in, words_in, line_words}
 use Rattle.schedule.specs.Words.{named, number, group_word, pace_word, order_word, only}
-use Rattle.schedule.specs.Records.{due, due_if, behind_if, over, and_then, has_party, has_leg, start_behind, order_behind, start_in, order_in}
+use Rattle.schedule.specs.Records.{due, due_if, behind_if, over, has_party, has_leg, start_behind, order_behind, start_in, order_in}
 use Rattle.schedule.specs.Rendering.{group_name, pace_name, order_name, start_words, named_if, order_words, spaced, text_line, rendered, Named, RenderedTextsRead}
 use Rattle.schedule.specs.Texts.{ended, appended, order_met, orders_from, start_met, lines_from}
-use Rattle.schedule.proofs.Stages.{start_line, parties_read, pace_read, tmin_read, tmax_read, cap_read, number_read, start_read, order_line, kind_read, party_read, leg_read, order_read}
 use Rattle.schedule.proofs.Taking.{one_word, no_word, one_line, no_line}
 
 -- no byte is a mark
@@ -65,13 +63,13 @@ abbrev Words : List (List ℕ) → Type 0
 Words [] = Unit {0}
 Words (w ∷ ws) = (0 < length w) × (clear w ≡ true) × Words ws
 
-no_line_end : (b : ℕ) → 0x23 < b → marks LineEnd b ≡ false
+no_line_end : (b : ℕ) → 0x23 < b → ends_line b ≡ false
 no_line_end b h = grind (arith, nat_tests)
 
-no_comment : (b : ℕ) → 0x23 < b → marks Comment b ≡ false
+no_comment : (b : ℕ) → 0x23 < b → begins_comment b ≡ false
 no_comment b h = grind (arith, nat_tests)
 
-no_blank : (b : ℕ) → 0x23 < b → marks Blank b ≡ false
+no_blank : (b : ℕ) → 0x23 < b → is_blank b ≡ false
 no_blank b h = grind (arith, nat_tests)
 
 spaced_without : (m : ℕ → Bool) → ((b : ℕ) → 0x23 < b → m b ≡ false) → m 0x20 ≡ false → (ws : List (List ℕ)) → Words ws → Without m (spaced ws)
@@ -83,28 +81,28 @@ spaced_without m a s (w ∷ v ∷ ws) h = without_append m w (0x20 ∷ spaced (v
 words_again : (ws : List (List ℕ)) → Words ws → words_in (spaced ws) ≡ ws
 words_again [] h = no_word [] refl
 words_again (w ∷ []) h =
-    let u = until_whole (marks Blank) w (clear_without (marks Blank) no_blank w h.1) in
-    let some : 0 < length (until (marks Blank) w) = rw u.0 h.0 in
-    one_word w h.0 some ∙ ap (λ z. z ∷ words_in (past (marks Blank) w)) u.0 ∙ ap (λ z. w ∷ words_in z) u.1 ∙ ap (λ z. w ∷ z) (no_word [] refl)
+    let u = until_whole is_blank w (clear_without is_blank no_blank w h.1) in
+    let some : 0 < length (until is_blank w) = rw u.0 h.0 in
+    one_word w h.0 some ∙ ap (λ z. z ∷ words_in (past is_blank w)) u.0 ∙ ap (λ z. w ∷ words_in z) u.1 ∙ ap (λ z. w ∷ z) (no_word [] refl)
 words_again (w ∷ v ∷ ws) h =
     let rest = spaced (v ∷ ws) in
     let all = w ++ (0x20 ∷ rest) in
-    let u = until_mark (marks Blank) w 0x20 rest (clear_without (marks Blank) no_blank w h.1) refl in
-    let some : 0 < length (until (marks Blank) all) = rw u.0 h.0 in
+    let u = until_mark is_blank w 0x20 rest (clear_without is_blank no_blank w h.1) refl in
+    let some : 0 < length (until is_blank all) = rw u.0 h.0 in
     let long : 0 < length all = simp length-append (omega arith) in
-    one_word all long some ∙ ap (λ z. z ∷ words_in (past (marks Blank) all)) u.0 ∙ ap (λ z. w ∷ words_in z) u.1 ∙ ap (λ z. w ∷ z) (words_again (v ∷ ws) h.2)
+    one_word all long some ∙ ap (λ z. z ∷ words_in (past is_blank all)) u.0 ∙ ap (λ z. w ∷ words_in z) u.1 ∙ ap (λ z. w ∷ z) (words_again (v ∷ ws) h.2)
 
 line_again : (ws : List (List ℕ)) → Words ws → line_words (spaced ws) ≡ ws
-line_again ws h = ap words_in (until_whole (marks Comment) (spaced ws) (spaced_without (marks Comment) no_comment refl ws h)).0 ∙ words_again ws h
+line_again ws h = ap words_in (until_whole begins_comment (spaced ws) (spaced_without begins_comment no_comment refl ws h)).0 ∙ words_again ws h
 
 -- a line is cut off
 lines_again : (ws : List (List ℕ)) (more : List ℕ) → Words ws → lines_in (text_line ws ++ more) ≡ spaced ws ∷ lines_in more
 lines_again ws more h =
     let all = spaced ws ++ (0x0A ∷ more) in
-    let u = until_mark (marks LineEnd) (spaced ws) 0x0A more (spaced_without (marks LineEnd) no_line_end refl ws h) refl in
+    let u = until_mark ends_line (spaced ws) 0x0A more (spaced_without ends_line no_line_end refl ws h) refl in
     let long : 0 < length all = simp length-append (omega arith) in
     ap lines_in (append_assoc (spaced ws) (0x0A ∷ []) more) ∙ one_line all long
-    ∙ ap (λ z. z ∷ lines_in (past (marks LineEnd) all)) u.0 ∙ ap (λ z. spaced ws ∷ lines_in z) u.1
+    ∙ ap (λ z. z ∷ lines_in (past ends_line all)) u.0 ∙ ap (λ z. spaced ws ∷ lines_in z) u.1
 
 -- numbers
 own : IsNumeralModel (λ ds. all_ascii_digits ds ≡ true) (read_on 0)
@@ -158,28 +156,16 @@ cap_again = refl
 
 -- the start
 start_again : (s : Start) → StartFits s → start_in (start_words s) ≡ Ok (Some s)
-unfolding due over
+unfolding start_in start_behind due over
 start_again s f =
-    let k = s.kind in
-    let w0 = start_words s in
-    let w1 = behind w0 in
-    let w2 = behind w1 in
-    let w3 = behind w2 in
-    let w4 = behind w3 in
-    let w5 = behind w4 in
-    let w6 = behind w5 in
-    let w7 = behind w6 in
+    let k = (group_again s.kind).2 in
     let n = number_again 255 s.parties (omega arith) (omega arith) in
+    let p = (pace_again s.pace).2 in
     let t = number_again 4294967295 s.tmin (omega arith) (omega arith) in
     let u = number_again 4294967295 s.tmax (omega arith) (omega arith) in
+    let c = sym cap_again in
     let m = number_again 255 s.cap (omega arith) (omega arith) in
-    let path =
-    parties_read k w1 w2 s.parties (sym n) refl ∙ pace_read k w2 w3 s.parties s.pace (sym (pace_again s.pace).2) refl
-    ∙ tmin_read k w3 w4 s.parties s.pace s.tmin (sym t) refl ∙ tmax_read k w4 w5 s.parties s.pace s.tmin s.tmax (sym u) refl
-    ∙ cap_read k w5 w6 s.parties s.pace s.tmin s.tmax cap_again refl ∙ number_read k w6 w7 s.parties s.pace s.tmin s.tmax s.cap (sym m) refl
-    ∙ sym (start_read s w7 refl) in
-    start_line w0 (group_name k) w1 refl refl ∙ ap (λ z. and_then z (λ kind. and_then (start_behind kind w1) (λ s. Ok (Some s)))) (group_again k).2
-    ∙ ap (λ z. and_then z (λ s. Ok (Some s))) path
+    simp (k, n, p, t, u, c, m)
 
 word : (w : List ℕ) (ws : List (List ℕ)) → 0 < length w → clear w ≡ true → Words ws → Words (w ∷ ws)
 word w ws a b h = (a, b, h)
@@ -228,21 +214,17 @@ module _ (o : Order) (f : OrderFits o) where
       decimal_word o.tick (order_name o.kind ∷ v2) (omega arith) w1
 
   order_again : (has_party o.kind ≡ false → o.party ≡ 0) → (has_leg o.kind ≡ false → o.leg ≡ 0) → order_in (order_words o) ≡ Ok (Some o)
-  unfolding due over
+  unfolding order_in order_behind due over
   order_again p l =
-      let k = o.kind in
-      let w0 = order_words o in
-      let w1 = behind w0 in
-      let w2 = behind w1 in
-      let w3 = named_if (has_leg k) o.leg [] in
-      let a = due_again (has_party k) o.party w3 (omega arith) p in
-      let b = due_again (has_leg k) o.leg [] (omega arith) l in
-      let path =
-      kind_read o.tick w1 w2 k (sym (kind_again k).2) refl ∙ party_read o.tick w2 w3 k (has_party k) o.party refl a.0 a.1
-      ∙ leg_read o.tick w3 [] k (has_leg k) o.party o.leg refl b.0 b.1 ∙ sym (order_read o [] refl) in
-      order_line w0 (decimal o.tick) w1 refl refl
-      ∙ ap (λ z. and_then z (λ t. and_then (order_behind t w1) (λ o. Ok (Some o)))) (number_again 4294967295 o.tick (omega arith) (omega arith))
-      ∙ ap (λ z. and_then z (λ o. Ok (Some o))) path
+      let t = number_again 4294967295 o.tick (omega arith) (omega arith) in
+      let k = (kind_again o.kind).2 in
+      let a = due_again (has_party o.kind) o.party (named_if (has_leg o.kind) o.leg []) (omega arith) p in
+      let b = due_again (has_leg o.kind) o.leg [] (omega arith) l in
+      let a0 = sym a.0 in
+      let a1 = sym a.1 in
+      let b0 = sym b.0 in
+      let b1 = sym b.1 in
+      simp (t, k, a0, a1, b0, b1)
 
 abbrev order_lines : List Order → List (List ℕ)
 order_lines os = map (λ o. spaced (order_words o)) os

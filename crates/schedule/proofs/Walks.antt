@@ -5,17 +5,16 @@ use Rattle.orders.specs.declared.start.Start.{Start}
 use Rattle.schedule.specs.declared.complaint.Cause.{Cause}
 use Rattle.schedule.specs.declared.complaint.Cause.TheVariants.{NoStart}
 use Rattle.schedule.specs.declared.complaint.Complaint.{Complaint}
-use Rattle.schedule.specs.Cuts.{line_words, first, behind}
+use Rattle.schedule.specs.Cuts.{line_words}
 use Rattle.schedule.specs.Records.{start_in, order_in}
 use Rattle.schedule.specs.Texts.{Reading, ended, order_met, orders_from, start_met, lines_from}
 use Rattle.schedule.specs.Steps.{at_line}
 
 -- the line l is asked for a start
-pub start_asked : (n n' : ℕ) (ls ls' : List (List ℕ)) (l : List ℕ) (xs ys : List Order) → Some l ≡ first ls → ls' ≡ behind ls → n' ≡ n + 1 →
+pub start_asked : (n n' : ℕ) (ls ls' : List (List ℕ)) (l : List ℕ) (xs ys : List Order) → ls ≡ l ∷ ls' → n' ≡ n + 1 →
     lines_from n ls xs ys ≡ start_met n' (lines_from n' ls' xs ys) (λ s. orders_from s n' ls' xs ys) xs ys (start_in (line_words l))
 unfolding lines_from
-start_asked n n' [] ls' l xs ys e b c = absurd (let z : ◌≡◌ {A = ℕ} 0 1 = cc in omega arith)
-start_asked n n' (v ∷ ls) ls' l xs ys e b c = let z : v ≡ l = cc in rw (z, c, b)
+start_asked n n' ls ls' l xs ys e c = rw (e, c)
 
 module _ (n : ℕ) (more : Reading) (orders : Start → Reading) (xs ys : List Order) where
   pub start_found : (r : Result (Option Start) Cause) (s : Start) → Ok (Some s) ≡ at_line n r → start_met n more orders xs ys r ≡ orders s
@@ -35,19 +34,16 @@ module _ (n : ℕ) (more : Reading) (orders : Start → Reading) (xs ys : List O
       let z : c ≡ record { line = n; cause = x } = cc in
       sym (ap (λ (c : Complaint). ended (Err c.cause) c.line xs ys) z)
 
-pub start_lacking : (n : ℕ) (ls : List (List ℕ)) (xs ys : List Order) → None ≡ first ls → lines_from n ls xs ys ≡ ended (Err NoStart) (n + 1) xs ys
+pub start_lacking : (n : ℕ) (ls : List (List ℕ)) (xs ys : List Order) → ls ≡ [] → lines_from n ls xs ys ≡ ended (Err NoStart) (n + 1) xs ys
 unfolding lines_from
-start_lacking n [] xs ys e = refl
-start_lacking n (v ∷ ls) xs ys e = absurd (let z : ◌≡◌ {A = ℕ} 0 1 = cc in omega arith)
+start_lacking n ls xs ys e = rw e
 
 -- the line l is asked for an order
-pub order_asked : (s : Start) (n n' : ℕ) (ls ls' : List (List ℕ)) (l : List ℕ) (xs ys : List Order) → Some l ≡ first ls → ls' ≡ behind ls → n' ≡ n + 1 →
+pub order_asked : (s : Start) (n n' : ℕ) (ls ls' : List (List ℕ)) (l : List ℕ) (xs ys : List Order) → ls ≡ l ∷ ls' → n' ≡ n + 1 →
     orders_from s n ls xs ys ≡ order_met n' (orders_from s n' ls') xs ys (order_in (line_words l))
 unfolding orders_from
-order_asked s n n' [] ls' l xs ys e b c = absurd (let z : ◌≡◌ {A = ℕ} 0 1 = cc in omega arith)
-order_asked s n n' (v ∷ ls) ls' l xs ys e b c = let z : v ≡ l = cc in rw (z, c, b)
+order_asked s n n' ls ls' l xs ys e c = rw (e, c)
 
-pub orders_over : (s : Start) (n : ℕ) (ls : List (List ℕ)) (xs ys : List Order) → None ≡ first ls → orders_from s n ls xs ys ≡ ended (Ok s) n xs ys
+pub orders_over : (s : Start) (n : ℕ) (ls : List (List ℕ)) (xs ys : List Order) → ls ≡ [] → orders_from s n ls xs ys ≡ ended (Ok s) n xs ys
 unfolding orders_from
-orders_over s n [] xs ys e = refl
-orders_over s n (v ∷ ls) xs ys e = absurd (let z : ◌≡◌ {A = ℕ} 0 1 = cc in omega arith)
+orders_over s n ls xs ys e = rw e

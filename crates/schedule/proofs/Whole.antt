@@ -1,5 +1,7 @@
 -- A text, from its first line to the file.
-use Rattle.std.proofs.Common.{◌≡◌, ℕ, ◌+◌, ◌≤◌, Bool, true, false, cond, leb, List, [], ◌++◌, length, take, drop, Some, None, Ok, Err, Result, sym, refl, ap, ◌∙◌, subst, arith}
+use Rattle.std.proofs.Common.{◌≡◌, ℕ, ◌+◌, ◌≤◌, Bool, true, false, cond, leb, List, [], ◌++◌, length, take, drop, Some, None, Ok, Err, Option, Result, sym, refl, ap, ◌∙◌, subst, arith}
+use Rattle.std.specs.Option.{ok_or}
+use Rattle.std.specs.Result.{IfOk}
 use Rattle.std.proofs.lemmas.List.{take_at, length-append}
 use Rattle.slots.specs.declared.SlotList.{SlotList}
 use Rattle.slots.specs.Slots.{items, spare}
@@ -36,18 +38,18 @@ slots_hold r a l slots after e f g h sd =
 pub complained : (r : Reading) (c : Complaint) (xs ys : List Order) (out : List ℕ) → r ≡ ended (Err c.cause) c.line xs ys → (Err c ≡ composed r (length out)) × (out ≡ output r out)
 complained r c xs ys out e = (sym (ap (λ x. composed x (length out)) e), sym (ap (λ x. output x out) e))
 
--- the file was written, and loads back
-pub record Done (r : Reading) (out out' : List ℕ) (size : ℕ) : Type 0 where
-  pub answer : Ok size ≡ composed r (length out)
+-- the answer of the whole call, and what the output then holds: a file that was written loads back
+pub record Made (r : Reading) (a : Result ℕ Complaint) (out out' : List ℕ) : Type 0 where
+  pub answer : a ≡ composed r (length out)
   pub output : out' ≡ output r out
-  pub within : size ≤ length out'
-  pub loads : LoadsAs r (take size out')
+  pub within : IfOk a (λ size. size ≤ length out')
+  pub loads : IfOk a (λ size. LoadsAs r (take size out'))
 
 module _ (s : Start) (n : ℕ) (xs ys : List Order) (out out' : List ℕ) (size : ℕ) where
   abbrev file : List ℕ
   file = bytes_of_file s xs
 
-  done : (slots : List Order) → Sound slots (ended (Ok s) n xs ys) → leb (length file) (length out) ≡ true → size ≡ length file → out' ≡ written file out → Done (ended (Ok s) n xs ys) out out' size
+  done : (slots : List Order) → Sound slots (ended (Ok s) n xs ys) → leb (length file) (length out) ≡ true → size ≡ length file → out' ≡ written file out → Made (ended (Ok s) n xs ys) (Ok size) out out'
   done slots h t e f =
       let l = ap length f ∙ length-append file (drop (length file) out) in
       let front : take size out' ≡ file = ap (take size) f ∙ take_at file (drop (length file) out) size (sym e) in
@@ -71,24 +73,37 @@ module _ (r : Reading) (s : Start) (n : ℕ) (xs ys os : List Order) (out out' :
   abbrev fits_file : Bool
   fits_file = leb (length (bytes_of_file s os)) (length out)
 
-  pub wrote : (size : ℕ) (slots : List Order) → Sound slots r → Some size ≡ cond fits_file (Some (length (bytes_of_file s os))) None → out' ≡ cond fits_file (written (bytes_of_file s os) out) out → Done r out out' size
+  wrote : (size : ℕ) (slots : List Order) → Sound slots r → Some size ≡ cond fits_file (Some (length (bytes_of_file s os))) None → out' ≡ cond fits_file (written (bytes_of_file s os) out) out → Made r (Ok size) out out'
   wrote size slots sd a b =
       let p = room_cases fits_file (length (bytes_of_file s os)) size a in
       let b' : out' ≡ written (bytes_of_file s os) out = b ∙ ap (λ t. cond t (written (bytes_of_file s os) out) out) p.0 in
-      subst (λ x. Done x out out' size) (sym h)
+      subst (λ x. Made x (Ok size) out out') (sym h)
       (done s n xs ys out out' size slots (subst (λ x. Sound slots x) h sd) (ap (λ zs. leb (length (bytes_of_file s zs)) (length out)) (sym o) ∙ p.0) (p.1 ∙ ap (λ zs. length (bytes_of_file s zs)) o) (b' ∙ ap (λ zs. written (bytes_of_file s zs) out) o))
 
-  pub wrote_not : (line : ℕ) → line ≡ n + 1 → None ≡ cond fits_file (Some (length (bytes_of_file s os))) None → out' ≡ cond fits_file (written (bytes_of_file s os) out) out →
-      (Err record { line = line; cause = NoRoom } ≡ composed r (length out)) × (out' ≡ output r out)
+  wrote_not : (line : ℕ) → line ≡ n + 1 → None ≡ cond fits_file (Some (length (bytes_of_file s os))) None → out' ≡ cond fits_file (written (bytes_of_file s os) out) out →
+      Made r (Err record { line = line; cause = NoRoom }) out out'
   wrote_not line l a b =
       let p = no_room_cases fits_file (length (bytes_of_file s os)) a in
       let p' : leb (length (bytes_of_file s xs)) (length out) ≡ false = ap (λ zs. leb (length (bytes_of_file s zs)) (length out)) (sym o) ∙ p in
-      let file = bytes_of_file s xs in (
-        ap (λ k. Err record { line = k; cause = NoRoom }) l
-            ∙ sym (ap (λ t. cond t (Ok (length file)) (Err record { line = n + 1; cause = NoRoom })) p') ∙ sym (ap (λ x. composed x (length out)) h),
-        b ∙ ap (λ t. cond t (written (bytes_of_file s os) out) out) p
-            ∙ sym (ap (λ t. cond t (written file out) out) p') ∙ sym (ap (λ x. output x out) h),
-      )
+      let file = bytes_of_file s xs in
+      record {
+        answer =
+            ap (λ k. Err record { line = k; cause = NoRoom }) l
+            ∙ sym (ap (λ t. cond t (Ok (length file)) (Err record { line = n + 1; cause = NoRoom })) p') ∙ sym (ap (λ x. composed x (length out)) h);
+        output =
+            b ∙ ap (λ t. cond t (written (bytes_of_file s os) out) out) p
+            ∙ sym (ap (λ t. cond t (written file out) out) p') ∙ sym (ap (λ x. output x out) h);
+        within = tt;
+        loads = tt;
+      }
+
+module _ (r : Reading) (s : Start) (n : ℕ) (xs ys os slots : List Order) (out out' : List ℕ) (h : r ≡ ended (Ok s) n xs ys) (o : os ≡ xs) (sd : Sound slots r) (line : ℕ) (l : line ≡ n + 1) where
+  made_as : (w : Option ℕ) → w ≡ cond (fits_file r s n xs ys os out out' h o) (Some (length (bytes_of_file s os))) None → out' ≡ cond (fits_file r s n xs ys os out out' h o) (written (bytes_of_file s os) out) out → Made r (ok_or w record { line = line; cause = NoRoom }) out out'
+  made_as (Some size) a b = wrote r s n xs ys os out out' h o size slots sd a b
+  made_as None a b = wrote_not r s n xs ys os out out' h o line l a b
+
+  pub made : (w : Option ℕ) (a : Result ℕ Complaint) → w ≡ cond (fits_file r s n xs ys os out out' h o) (Some (length (bytes_of_file s os))) None → out' ≡ cond (fits_file r s n xs ys os out out' h o) (written (bytes_of_file s os) out) out → a ≡ ok_or w record { line = line; cause = NoRoom } → Made r a out out'
+  made w a e f g = subst (λ z. Made r z out out') (sym g) (made_as w e f)
 
 pub reads_sound : (text : List ℕ) (slots : List Order) → Sound slots (reads text slots)
 reads_sound text slots = sound 0 (lines_in text) slots

@@ -1,14 +1,17 @@
 -- A text in pieces.
-use Rattle.std.specs.Prelude.{ℕ, ◌+◌, Bool, cond, ◌||◌, List, [], ◌∷◌, Some, None, Option, ◌==◌}
-use Rattle.std.specs.Borrow.{Bor}
-use Rattle.schedule.specs.declared.cut.Mark.{Mark}
-use Rattle.schedule.specs.declared.cut.Mark.TheVariants.{LineEnd, Comment, Blank}
+use Rattle.std.specs.Prelude.{ℕ, Bool, cond, ◌||◌, List, [], ◌∷◌, ◌==◌}
 
--- the bytes of each mark
-abbrev pub marks : Mark → ℕ → Bool
-marks LineEnd b = b == 0x0A
-marks Comment b = b == 0x23
-marks Blank b = b == 0x20 || (b == 0x09 || b == 0x0D)
+-- the byte that ends a line
+abbrev pub ends_line : ℕ → Bool
+ends_line b = b == 0x0A
+
+-- the one that begins a comment
+abbrev pub begins_comment : ℕ → Bool
+begins_comment b = b == 0x23
+
+-- those between words
+abbrev pub is_blank : ℕ → Bool
+is_blank b = b == 0x20 || (b == 0x09 || b == 0x0D)
 
 -- the bytes before the first that m picks
 abbrev pub until : (ℕ → Bool) → List ℕ → List ℕ
@@ -38,32 +41,17 @@ filled ((b ∷ p) ∷ ps) = (b ∷ p) ∷ filled ps
 
 -- the lines of a text
 unfoldable pub lines_in : List ℕ → List (List ℕ)
-lines_in text = pieces (marks LineEnd) text
+lines_in text = pieces ends_line text
 
 -- what stands between blanks
 unfoldable pub words_in : List ℕ → List (List ℕ)
-words_in bs = filled (pieces (marks Blank) bs)
+words_in bs = filled (pieces is_blank bs)
 
 -- the words of a line, up to its comment
 abbrev pub line_words : List ℕ → List (List ℕ)
-line_words line = words_in (until (marks Comment) line)
+line_words line = words_in (until begins_comment line)
 
--- the first piece, if any
-abbrev pub first : List (List ℕ) → Option (List ℕ)
-first [] = None
-first (p ∷ ps) = Some p
-
--- the others
+-- the pieces but the first
 abbrev pub behind : List (List ℕ) → List (List ℕ)
 behind [] = []
 behind (p ∷ ps) = ps
-
--- the bytes behind a reference, if any
-abbrev pub bytes_told : Option (Bor (List ℕ)) → Option (List ℕ)
-bytes_told None = None
-bytes_told (Some r) = Some r.now
-
--- how many pieces were taken, after one more was asked for
-abbrev pub counted : Option (Bor (List ℕ)) → ℕ → ℕ
-counted None n = n
-counted (Some r) n = n + 1

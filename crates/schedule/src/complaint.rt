@@ -4,7 +4,7 @@ ghost use Rattle.schedule.specs.Causes.{refused};
 
 use slots::refusal::Refusal;
 
-#[derive(Clone, Copy)]
+#[derive(Clone, Copy, Debug, PartialEq, Eq)]
 pub enum Cause {
     // the line ends where a word is due
     MissingWord,
@@ -27,7 +27,7 @@ pub enum Cause {
 }
 
 // The first line that is not taken, counted from 1, and why.
-#[derive(Clone, Copy)]
+#[derive(Clone, Copy, Debug, PartialEq, Eq)]
 pub struct Complaint {
     pub line: usize,
     pub cause: Cause,

@@ -24,11 +24,8 @@ pub fn compose(text: &[u8], order_slots: &mut [Order], out: &mut [u8]) -> Result
     let mut list = SlotList::new(order_slots);
     let start = read_start(&mut lines)?;
     read_orders(&mut lines, &mut list)?;
-    match write(start, list.as_slice(), out) {
-        Some(size) => Ok(size),
-        None => Err(Complaint {
-            line: lines.number() + 1,
-            cause: Cause::NoRoom,
-        }),
-    }
+    write(start, list.as_slice(), out).ok_or(Complaint {
+        line: lines.number() + 1,
+        cause: Cause::NoRoom,
+    })
 }

@@ -1,8 +1,9 @@
 // The lines of a text, taken one by one.
-ghost use Rattle.std.specs.Prelude.{◌≡◌, ◌+◌, ◌^◌, ◌<◌, length};
-ghost use Rattle.schedule.specs.Cuts.{lines_in, first, behind, bytes_told, counted};
+ghost use Rattle.std.specs.Prelude.{◌≡◌, ◌+◌, ◌^◌, ◌<◌, [], ◌∷◌, length, MatchOption};
+ghost use Rattle.std.specs.Iterator.{item_count};
+ghost use Rattle.schedule.specs.Cuts.{lines_in};
 
-use crate::cut::{Mark, cut};
+use crate::cut::cut;
 
 // What is left of the caller's text, and how many lines came before it.
 #[derive(Drop)]
@@ -30,19 +31,22 @@ impl<'a> Lines<'a> {
     {
         self.number
     }
+}
 
-    // The next line, if any.
-    pub(crate) fn next(&mut self) -> Option<&'a [u8]>
-        ensures answer { bytes_told result ≡ first (lines_in self.old.rest.now) }
-        ensures left { lines_in self.new.rest.now ≡ behind (lines_in self.old.rest.now) }
-        ensures number { self.new.number ≡ counted result self.old.number }
-    {
+impl<'a> Iterator for Lines<'a> {
+    type Item = &'a [u8];
+
+    ghost next_gives = { λ before line after. MatchOption line ((lines_in before.rest.now ≡ []) × (lines_in after.rest.now ≡ []) × (after.number ≡ before.number)) (λ line. (lines_in before.rest.now ≡ line.now ∷ lines_in after.rest.now) × (after.number ≡ before.number + 1)) };
+
+    ghost remaining = { item_count (λ lines. lines_in lines.rest.now) };
+
+    fn next(&mut self) -> Option<&'a [u8]> {
         if self.rest.is_empty() {
             return None;
         }
-        let parts = cut(self.rest, Mark::LineEnd);
-        self.rest = parts.after;
+        let (line, rest) = cut(self.rest, |byte| byte == b'\n');
+        self.rest = rest;
         self.number += 1;
-        Some(parts.before)
+        Some(line)
     }
 }

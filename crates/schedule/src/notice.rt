@@ -1,14 +1,13 @@
 // A complaint in words.
 ghost use Rattle.std.specs.Prelude.{◌≡◌};
-ghost use Rattle.text.specs.Lines.{text};
 ghost use Rattle.schedule.specs.Notices.{cause_words, notice_line};
 
 use crate::complaint::{Cause, Complaint};
 use text::Line;
 
-// The line that tells a planner what is wrong, and where.
+// The line that tells a planner what is wrong, and where: its bytes with their length, as the lines of a played file are told.
 pub fn notice(complaint: Complaint) -> Line
-    ensures { text result ≡ notice_line complaint }
+    ensures { result ≡ notice_line complaint }
 {
     let mut line = Line::new();
     line.add(b"line ");
@@ -19,6 +18,7 @@ pub fn notice(complaint: Complaint) -> Line
     line
 }
 
+// Not a Display, since no contract of `fmt::Write` says that a line with room takes what is written.
 fn cause_words(cause: Cause) -> &'static [u8]
     ensures { result.now ≡ cause_words cause }
 {

@@ -11,7 +11,7 @@ pub(crate) fn number(word: &[u8], max: u32) -> Result<u32, Cause>
     let over = max as u64 + 1;
     let mut value: u64 = 0;
     for byte in word {
-        if *byte < b'0' || *byte > b'9' {
+        if !byte.is_ascii_digit() {
             return Err(Cause::NotANumber);
         }
         // past `max` it stays there, so that it never wraps

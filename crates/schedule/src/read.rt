@@ -1,5 +1,5 @@
-// Reads a text line by line: the start first, and then the orders into a list.
-ghost use Rattle.std.specs.Prelude.{◌≡◌, List, Some, Ok};
+// Reads a text line by line: the start first, and then the orders into a list, of which each call says that it only grows.
+ghost use Rattle.std.specs.Prelude.{◌≡◌, List};
 ghost use Rattle.slots.specs.Slots.{items, spare, Extends};
 ghost use Rattle.schedule.specs.Cuts.{lines_in, line_words};
 ghost use Rattle.schedule.specs.Records.{start_in, order_in};
@@ -32,10 +32,7 @@ pub(crate) fn read_start(lines: &mut Lines<'_>) -> Result<Start, Complaint>
 fn start_at(text: &[u8], line: usize) -> Result<Option<Start>, Complaint>
     ensures { result ≡ at_line line (start_in (line_words text.now)) }
 {
-    match start_in(text) {
-        Ok(start) => Ok(start),
-        Err(cause) => Err(Complaint { line, cause }),
-    }
+    start_in(text).map_err(|cause| Complaint { line, cause })
 }
 
 // Every later line with words is an order.
@@ -57,22 +54,11 @@ fn add_order(text: &[u8], line: usize, list: &mut SlotList<'_, Order>) -> Result
     ensures met { (more : List Order → List Order → Reading) → order_met line more (items list.old) (spare list.old) (order_in (line_words text.now)) ≡ past_line result more (items list.new) (spare list.new) }
     ensures extends { Extends list.old list.new }
 {
-    match order_in(text) {
-        Ok(None) => Ok(()),
-        Ok(Some(order)) => append(order, line, list),
-        Err(cause) => Err(Complaint { line, cause }),
-    }
-}
-
-fn append(order: Order, line: usize, list: &mut SlotList<'_, Order>) -> Result<(), Complaint>
-    ensures met { (more : List Order → List Order → Reading) → order_met line more (items list.old) (spare list.old) (Ok (Some order)) ≡ past_line result more (items list.new) (spare list.new) }
-    ensures extends { Extends list.old list.new }
-{
-    match list.append(order) {
-        Ok(()) => Ok(()),
-        Err(refusal) => Err(Complaint {
+    if let Some(order) = order_in(text).map_err(|cause| Complaint { line, cause })? {
+        list.append(order).map_err(|refusal| Complaint {
             line,
             cause: refusal.into(),
-        }),
+        })?;
     }
+    Ok(())
 }

@@ -12,6 +12,8 @@ use orders::start::Start;
 use protocol::kind::GroupKind;
 
 // The start that a line holds; none in a line without words.
+// Not one function with `order_in`: they share only what a line without words holds.
+#[tactic(auto, unfolding(crate::specs::Records::start_in))]
 pub(crate) fn start_in(line: &[u8]) -> Result<Option<Start>, Cause>
     ensures { result ≡ start_in (line_words line.now) }
 {
@@ -24,6 +26,7 @@ pub(crate) fn start_in(line: &[u8]) -> Result<Option<Start>, Cause>
     Ok(Some(start))
 }
 
+#[tactic(auto, unfolding(crate::specs::Records::start_behind))]
 fn start_behind(kind: GroupKind, words: &mut Words<'_>) -> Result<Start, Cause>
     ensures { result ≡ start_behind kind (words_in words.old.rest.now) }
 {
@@ -45,6 +48,7 @@ fn start_behind(kind: GroupKind, words: &mut Words<'_>) -> Result<Start, Cause>
 }
 
 // The order that a line holds; none in a line without words.
+#[tactic(auto, unfolding(crate::specs::Records::order_in))]
 pub(crate) fn order_in(line: &[u8]) -> Result<Option<Order>, Cause>
     ensures { result ≡ order_in (line_words line.now) }
 {
@@ -57,6 +61,7 @@ pub(crate) fn order_in(line: &[u8]) -> Result<Option<Order>, Cause>
     Ok(Some(order))
 }
 
+#[tactic(auto, unfolding(crate::specs::Records::order_behind))]
 fn order_behind(tick: u32, words: &mut Words<'_>) -> Result<Order, Cause>
     ensures { result ≡ order_behind tick (words_in words.old.rest.now) }
 {
@@ -75,17 +80,11 @@ fn order_behind(tick: u32, words: &mut Words<'_>) -> Result<Order, Cause>
 fn has_party(kind: OrderKind) -> bool
     ensures { result ≡ has_party kind }
 {
-    match kind {
-        OrderKind::Wait => false,
-        _ => true,
-    }
+    kind != OrderKind::Wait
 }
 
 fn has_leg(kind: OrderKind) -> bool
     ensures { result ≡ has_leg kind }
 {
-    match kind {
-        OrderKind::Deliver | OrderKind::Lose => true,
-        _ => false,
-    }
+    matches!(kind, OrderKind::Deliver | OrderKind::Lose)
 }

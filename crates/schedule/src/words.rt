@@ -1,12 +1,13 @@
-// The words of one line, taken one by one.
-ghost use Rattle.std.specs.Prelude.{◌≡◌, codes};
-ghost use Rattle.schedule.specs.Cuts.{words_in, line_words, first, behind, bytes_told};
+// The words of one line, taken one by one. Each method says what it leaves of them, which no fact about one value can.
+ghost use Rattle.std.specs.Prelude.{◌≡◌, [], ◌∷◌, MatchResult, codes};
+ghost use Rattle.std.specs.Iterator.{YieldsFirstRef, item_count};
+ghost use Rattle.schedule.specs.Cuts.{words_in, line_words, behind};
 ghost use Rattle.schedule.specs.Words.{number, pace_word, order_word, only};
 ghost use Rattle.schedule.specs.Records.{due, due_if, behind_if, over};
 
 use crate::complaint::Cause;
-use crate::cut::{Mark, cut};
-use crate::kinds::{is, order_kind, pace_kind};
+use crate::cut::cut;
+use crate::kinds::{cap_word, order_kind, pace_kind};
 use crate::number::number;
 use orders::order::OrderKind;
 use orders::start::PaceKind;
@@ -21,35 +22,24 @@ impl<'a> Words<'a> {
     pub(crate) fn new(line: &'a [u8]) -> Words<'a>
         ensures { words_in result.rest.now ≡ line_words line.now }
     {
-        Words {
-            rest: cut(line, Mark::Comment).before,
-        }
+        let (rest, _) = cut(line, |byte| byte == b'#');
+        Words { rest }
     }
 
-    // The next word, if any.
-    pub(crate) fn next(&mut self) -> Option<&'a [u8]>
-        ensures answer { bytes_told result ≡ first (words_in self.old.rest.now) }
-        ensures left { words_in self.new.rest.now ≡ behind (words_in self.old.rest.now) }
+    // The next word, which has to be there.
+    pub(crate) fn word(&mut self) -> Result<&'a [u8], Cause>
+        ensures { MatchResult result (λ word. words_in self.old.rest.now ≡ word.now ∷ words_in self.new.rest.now) (λ cause. (words_in self.old.rest.now ≡ []) × (words_in self.new.rest.now ≡ []) × (cause ≡ Cause.MissingWord)) }
     {
-        while !self.rest.is_empty() {
-            let parts = cut(self.rest, Mark::Blank);
-            self.rest = parts.after;
-            if !parts.before.is_empty() {
-                return Some(parts.before);
-            }
-        }
-        None
+        self.next().ok_or(Cause::MissingWord)
     }
 
     // The next word as a number, which is `max` at most.
+    #[tactic(auto, unfolding(crate::specs::Records::due))]
     pub(crate) fn number(&mut self, max: u32) -> Result<u32, Cause>
         ensures answer { result ≡ due (number max) (words_in self.old.rest.now) }
         ensures left { words_in self.new.rest.now ≡ behind (words_in self.old.rest.now) }
     {
-        match self.next() {
-            Some(word) => number(word, max),
-            None => Err(Cause::MissingWord),
-        }
+        number(self.word()?, max)
     }
 
     // The next word as a number of one byte.
@@ -61,6 +51,7 @@ impl<'a> Words<'a> {
     }
 
     // The next word as a byte where one is `wanted`; 0 where none is.
+    #[tactic(auto, unfolding(crate::specs::Records::due_if))]
     pub(crate) fn byte_if(&mut self, wanted: bool) -> Result<u8, Cause>
         ensures answer { result ≡ due_if wanted (words_in self.old.rest.now) }
         ensures left { words_in self.new.rest.now ≡ behind_if wanted (words_in self.old.rest.now) }
@@ -69,39 +60,34 @@ impl<'a> Words<'a> {
     }
 
     // The next word as a pace.
+    #[tactic(auto, unfolding(crate::specs::Records::due))]
     pub(crate) fn pace(&mut self) -> Result<PaceKind, Cause>
         ensures answer { result ≡ due pace_word (words_in self.old.rest.now) }
         ensures left { words_in self.new.rest.now ≡ behind (words_in self.old.rest.now) }
     {
-        match self.next() {
-            Some(word) => pace_kind(word),
-            None => Err(Cause::MissingWord),
-        }
+        pace_kind(self.word()?)
     }
 
     // The next word as an order's kind.
+    #[tactic(auto, unfolding(crate::specs::Records::due))]
     pub(crate) fn order_kind(&mut self) -> Result<OrderKind, Cause>
         ensures answer { result ≡ due order_word (words_in self.old.rest.now) }
         ensures left { words_in self.new.rest.now ≡ behind (words_in self.old.rest.now) }
     {
-        match self.next() {
-            Some(word) => order_kind(word),
-            None => Err(Cause::MissingWord),
-        }
+        order_kind(self.word()?)
     }
 
     // The next word, which has to be `cap`.
+    #[tactic(auto, unfolding(crate::specs::Records::due))]
     pub(crate) fn cap(&mut self) -> Result<(), Cause>
         ensures answer { result ≡ due (only (codes "cap")) (words_in self.old.rest.now) }
         ensures left { words_in self.new.rest.now ≡ behind (words_in self.old.rest.now) }
     {
-        match self.next() {
-            Some(word) => only_cap(word),
-            None => Err(Cause::MissingWord),
-        }
+        cap_word(self.word()?)
     }
 
     // No word is left.
+    #[tactic(auto, unfolding(crate::specs::Records::over))]
     pub(crate) fn end(&mut self) -> Result<(), Cause>
         ensures { result ≡ over (words_in self.old.rest.now) }
     {
@@ -112,12 +98,21 @@ impl<'a> Words<'a> {
     }
 }
 
-fn only_cap(word: &[u8]) -> Result<(), Cause>
-    ensures { result ≡ only (codes "cap") word.now }
-{
-    if is(word, b"cap") {
-        Ok(())
-    } else {
-        Err(Cause::UnknownWord)
+impl<'a> Iterator for Words<'a> {
+    type Item = &'a [u8];
+
+    ghost next_gives = { YieldsFirstRef (λ words. words_in words.rest.now) };
+
+    ghost remaining = { item_count (λ words. words_in words.rest.now) };
+
+    fn next(&mut self) -> Option<&'a [u8]> {
+        while !self.rest.is_empty() {
+            let (word, rest) = cut(self.rest, |byte| matches!(byte, b' ' | b'\t' | b'\r'));
+            self.rest = rest;
+            if !word.is_empty() {
+                return Some(word);
+            }
+        }
+        None
     }
 }

@@ -1,35 +1,20 @@
--- What stands at a place of a list's front.
-use Rattle.std.proofs.Common.{◌≡◌, ℕ, zero, suc, ◌-◌, ◌<◌, ◌≤◌, List, [], ◌∷◌, map, length, get_or, take, drop, Some, None, sym, refl, ap, ◌∙◌, le_of_suc-le-suc, not-suc-le-zero, arith}
-use Rattle.std.proofs.lemmas.List.{length-take-le, length-drop, get_or-take, get_or-map}
-use Rattle.slots.specs.Slots.{read, last_time}
+-- What stands at a place of a list.
+use Rattle.std.proofs.Common.{ℕ, ◌<◌, ◌≤◌, List, [], ◌∷◌, map, length, get_or, Option, Some, None, sym, subst, not-suc-le-zero, arith}
+use Rattle.std.specs.List.{AllWithin, HoldsAt}
+use Rattle.std.specs.Option.{MatchOption}
+use Rattle.std.proofs.lemmas.List.{get_or-map}
+use Rattle.slots.specs.Slots.{First}
 
-module _ {X : Type 0} where
-  read_in : (xs : List X) (n : ℕ) (x : X) → n < length xs → x ≡ get_or xs n x → Some x ≡ read xs n
-  read_in [] n x h e = absurd (not-suc-le-zero h)
-  read_in (y ∷ ys) zero x h e = ap Some e
-  read_in (y ∷ ys) (suc n) x h e = read_in ys n x (le_of_suc-le-suc h) e
+module _ {X : Type 0} (time : X → ℕ) (t : ℕ) (xs : List X) where
+  -- what holds of the record's time there, whichever record is read past the end
+  time_there : (P : ℕ → Type 0) (ys : List X) (k : ℕ) → k < length ys → HoldsAt (λ x. P (time x)) ys k → P (get_or (map time ys) k 0)
+  time_there P [] k h p = absurd (not-suc-le-zero h)
+  time_there P (y ∷ ys) k h p = subst P (sym (get_or-map time (y ∷ ys) k y 0 h)) (p y)
 
-  read_out : (xs : List X) (n : ℕ) → length xs ≤ n → None ≡ read xs n
-  read_out [] n h = refl
-  read_out (y ∷ ys) zero h = absurd (not-suc-le-zero h)
-  read_out (y ∷ ys) (suc n) h = read_out ys n (le_of_suc-le-suc h)
-
-  pub read_front : (xs : List X) (n k : ℕ) (x : X) → n ≤ length xs → k < n → x ≡ get_or xs k x → Some x ≡ read (take n xs) k
-  read_front xs n k x h lt e =
-      read_in (take n xs) k x (omega (arith, length-take-le n xs h)) (e ∙ sym (get_or-take n xs k x lt))
-
-  pub read_past : (xs : List X) (n k : ℕ) → n ≤ length xs → n ≤ k → None ≡ read (take n xs) k
-  read_past xs n k h le = read_out (take n xs) k (omega (arith, length-take-le n xs h))
-
-  pub time_at : (time : X → ℕ) (xs : List X) (n k : ℕ) (x : X) → n ≤ length xs → k < n → x ≡ get_or xs k x → get_or (map time (take n xs)) k 0 ≡ time x
-  time_at time xs n k x h lt e =
-      let l = length-take-le n xs h in
-      get_or-map time (take n xs) k x 0 (omega arith) ∙ ap time (get_or-take n xs k x lt ∙ sym e)
-
-  pub last_front : (time : X → ℕ) (xs : List X) (n : ℕ) (x : X) → n ≤ length xs → 0 < n → x ≡ get_or xs (n - 1) x → time x ≡ last_time time (take n xs)
-  last_front time xs n x h pos e =
-      sym (time_at time xs n (n - 1) x h (omega arith) e)
-      ∙ ap (λ (m : ℕ). get_or (map time (take n xs)) (m - 1) 0) (sym (length-take-le n xs h))
-
-  pub has_slot : (xs : List X) (n : ℕ) → 0 < length (drop n xs) → n < length xs
-  has_slot xs n h = omega (arith, length-drop n xs)
+  pub first_found : (r : Option ℕ) → MatchOption r (AllWithin (λ x. time x < t) xs 0 (length xs)) (λ p. (p < length xs) × HoldsAt (λ x. t ≤ time x) xs p × AllWithin (λ x. time x < t) xs 0 p) → First time t xs r
+  first_found None before = λ k h. time_there (λ n. n < t) xs k h (λ d. before k d (omega arith) h)
+  first_found (Some p) (within, at, before) = (
+    within,
+    time_there (λ n. t ≤ n) xs p within at,
+    λ k h. time_there (λ n. n < t) xs k (omega arith) (λ d. before k d (omega arith) h),
+  )

@@ -1,5 +1,5 @@
 -- A list in slots, by its records and its spare slots.
-use Rattle.std.specs.Prelude.{◌≡◌, ℕ, zero, suc, ◌-◌, ◌<◌, ◌≤◌, cond, List, [], ◌∷◌, ◌++◌, map, length, take, drop, Some, None, Ok, Err, Option, Result, MatchOption, ◌==◌, nat_lt, slice_index}
+use Rattle.std.specs.Prelude.{◌≡◌, ℕ, ◌-◌, ◌<◌, ◌≤◌, cond, List, ◌++◌, map, length, take, drop, Ok, Err, Option, Result, MatchOption, ◌==◌, nat_lt, slice_index}
 use Rattle.std.specs.List.Sorted.{IsNonDecreasingBy}
 use Rattle.slots.specs.declared.SlotList.{SlotList}
 use Rattle.slots.specs.declared.refusal.Refusal.{Refusal}
@@ -17,12 +17,6 @@ module _ {X : Type 0} where
   -- how many slots were lent
   abbrev pub capacity : SlotList X → ℕ
   capacity l = length l.slots.now
-
-  -- the record at a place, or that there is none
-  abbrev pub read : List X → ℕ → Option X
-  read [] n = None
-  read (x ∷ xs) zero = Some x
-  read (x ∷ xs) (suc n) = read xs n
 
   -- the time of the last record, 0 where there is none
   abbrev pub last_time : (X → ℕ) → List X → ℕ

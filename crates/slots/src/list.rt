@@ -1,6 +1,7 @@
 ghost use Rattle.std.specs.Prelude.{◌≡◌, ◌<◌, [], ◌∷◌, length, MatchResult};
+ghost use Rattle.std.specs.List.{slice_get};
 ghost use Rattle.std.specs.List.Sorted.{IsNonDecreasingBy};
-ghost use Rattle.slots.specs.Slots.{items, spare, read, last_time, LastIsLatest, append_answer, Appended, Extends, First};
+ghost use Rattle.slots.specs.Slots.{items, spare, last_time, LastIsLatest, append_answer, Appended, Extends, First};
 
 use super::SlotList;
 use super::refusal::Refusal;
@@ -34,7 +35,7 @@ impl<'a, T> SlotList<'a, T> {
     pub fn as_slice(&self) -> &[T]
         ensures { result.now ≡ items self.now }
     {
-        &self.slots[0..self.len]
+        &self.slots[..self.len]
     }
 
     // Gives the slots back as they are, with the number of records.
@@ -51,14 +52,9 @@ impl<'a, T> SlotList<'a, T> {
 impl<'a, T: Copy> SlotList<'a, T> {
     // The record at a place, counted from 0.
     pub fn get(&self, place: usize) -> Option<T>
-        ensures { result ≡ read (items self.now) place }
+        ensures { result ≡ slice_get (items self.now) place }
     {
-        if place < self.len {
-            let slots = &*self.slots;
-            Some(slots[place])
-        } else {
-            None
-        }
+        self.as_slice().get(place).copied()
     }
 
     // Takes the first spare slot, of which there is one. Only `append` may add, so that the ticks never fall.
@@ -77,13 +73,7 @@ impl<'a, T: Timed + Copy> SlotList<'a, T> {
         ensures value { result ≡ last_time T.Timed.time (items self.now) }
         ensures latest { LastIsLatest T.Timed.time (items self.now) }
     {
-        if self.len == 0 {
-            return 0;
-        }
-        let slots = &*self.slots;
-        let last = self.len - 1;
-        let item = slots[last];
-        item.tick()
+        self.as_slice().last().map_or(0, T::tick)
     }
 
     // One record more, at the end.
@@ -107,13 +97,6 @@ impl<'a, T: Timed + Copy> SlotList<'a, T> {
     pub fn first_at_or_after(&self, tick: u32) -> Option<usize>
         ensures { First T.Timed.time tick (items self.now) result }
     {
-        let slots = &*self.slots;
-        for place in 0..self.len {
-            let item = slots[place];
-            if tick <= item.tick() {
-                return Some(place);
-            }
-        }
-        None
+        self.as_slice().iter().position(|item| tick <= item.tick())
     }
 }

@@ -2,7 +2,7 @@ ghost use Rattle.std.specs.Prelude.{◌≡◌};
 ghost use Rattle.slots.specs.Refusals.{number};
 
 // Why a record is not appended.
-#[derive(Clone, Copy)]
+#[derive(Clone, Copy, Debug, PartialEq, Eq)]
 pub enum Refusal {
     // every slot is taken
     NoSlot = 12,
@@ -11,6 +11,7 @@ pub enum Refusal {
 }
 
 impl Refusal {
+    // Not a `From`: a byte alone would not say that it is the number of a question.
     pub fn number(self) -> u8
         ensures { result ≡ number self }
     {

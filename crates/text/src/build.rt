@@ -1,14 +1,15 @@
-// A line grows by texts and numbers, each of which is added whole or not at all.
-ghost use Rattle.std.specs.Prelude.{◌≡◌, [], length, decimal};
-ghost use Rattle.text.specs.Lines.{text, added, padded};
+// A line grows by texts and numbers, each of which is added whole or not at all. Not by `write!`: that tells what was written
+// only where it answers Ok, and no contract of `fmt::Write` says that a line with room answers so.
+ghost use Rattle.std.specs.Prelude.{◌≡◌, ◌≤◌, [], length, decimal};
+ghost use Rattle.text.specs.Lines.{added, padded};
 
 use super::bytes::put;
-use super::decimal::{DIGITS, digits};
+use super::decimal::digits;
 use super::{Line, SIZE};
 
 impl Line {
     pub fn new() -> Line
-        ensures { text result ≡ [] }
+        ensures { result ≡ [] }
     {
         Line {
             bytes: [0; SIZE],
@@ -17,15 +18,17 @@ impl Line {
     }
 
     pub fn as_slice(&self) -> &[u8]
-        ensures { result.now ≡ text self.now }
+        ensures text { result.now ≡ self.now }
+        ensures within { length self.now ≤ 128 }
     {
-        &self.bytes[0..self.len]
+        &self.bytes[..self.len]
     }
 
     // All of its bytes, those past the text 0, and the text's length.
     pub fn into_bytes(self) -> ([u8; SIZE], usize)
-        ensures bytes { result.0 ≡ padded (text self) }
-        ensures len { result.1 ≡ length (text self) }
+        ensures bytes { result.0 ≡ padded self }
+        ensures len { result.1 ≡ length self }
+        ensures within { result.1 ≤ 128 }
     {
         let Line { bytes, len } = self;
         (bytes, len)
@@ -33,18 +36,16 @@ impl Line {
 
     // Adds a text where it fits, and changes nothing where it does not.
     pub fn add(&mut self, more: &[u8])
-        ensures { text self.new ≡ added (text self.old) more.now }
+        ensures { self.new ≡ added self.old more.now }
     {
-        let at = self.len;
-        let end = put(&mut self.bytes, at, more);
+        let end = put(&mut self.bytes, self.len, more);
         self.len = end;
     }
 
     // Adds a number in decimal where it fits, and changes nothing where it does not.
     pub fn number(&mut self, n: u64)
-        ensures { text self.new ≡ added (text self.old) (decimal n) }
+        ensures { self.new ≡ added self.old (decimal n) }
     {
-        let numeral = digits(n);
-        self.add(&numeral.bytes[numeral.first..DIGITS]);
+        self.add(digits(n).as_slice());
     }
 }

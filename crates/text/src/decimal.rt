@@ -5,27 +5,37 @@ ghost use Rattle.text.specs.Numeral.{Writes};
 // How many digits a 64-bit number has at most.
 pub const DIGITS: usize = 20;
 
-// The digits stand at the end of the bytes, from place `first` on.
-#[derive(Clone, Copy)]
+// The digits stand at the end of the bytes, from place `first` on. Allocating nothing, it has a table of its own; being `Copy`, it is seen
+// with its fields, and not by a model that forgets where the digits begin.
+#[derive(Clone, Copy, Debug, PartialEq, Eq)]
 pub struct Numeral {
-    pub bytes: [u8; DIGITS],
-    pub first: usize,
+    bytes: [u8; DIGITS],
+    first: usize,
+    ghost within: { first < 20 },
+    ghost long: { length bytes ≡ 20 },
+}
+
+impl Numeral {
+    pub fn as_slice(&self) -> &[u8]
+        ensures { result.now ≡ drop self.now.first self.now.bytes }
+    {
+        &self.bytes[self.first..]
+    }
 }
 
 // The digits of `n`, built from the back; 0 is one digit.
 pub fn digits(n: u64) -> Numeral
-    ensures within { result.first < 20 }
-    ensures long { length result.bytes ≡ 20 }
     ensures text { drop result.first result.bytes ≡ decimal n }
     ensures writes { Writes n (drop result.first result.bytes) }
 {
-    let mut bytes = [48u8; DIGITS];
+    let mut bytes = [b'0'; DIGITS];
     let mut first = 19;
-    bytes[19] = 48 + (n % 10) as u8;
+    bytes[19] = b'0' + (n % 10) as u8;
     let mut rest = n / 10;
+    // By place: after `iter_mut().rev()` a proof would know the bytes' length alone.
     while rest > 0 {
         first -= 1;
-        bytes[first] = 48 + (rest % 10) as u8;
+        bytes[first] = b'0' + (rest % 10) as u8;
         rest /= 10;
     }
     Numeral { bytes, first }

@@ -1,7 +1,7 @@
 // Text in bytes: one write into lent bytes, a number's decimal digits, and one line under construction.
 #![tactic(auto)]
 
-ghost use Rattle.std.specs.Prelude.{◌≡◌, ◌-◌, ◌≤◌, length, drop, replicate};
+use std::marker::Model;
 
 mod build;
 pub mod bytes;
@@ -10,12 +10,22 @@ pub mod decimal;
 // How many bytes a line has room for.
 pub const SIZE: usize = 128;
 
-// The first `len` bytes hold the line so far; the others are 0.
+// The first `len` bytes hold the line so far; the others are 0. Lent nothing and allocating nothing, it can't be a String.
 #[derive(Drop)]
 pub struct Line {
     bytes: [u8; SIZE],
     len: usize,
-    ghost within: { len ≤ 128 },
-    ghost long: { length bytes ≡ 128 },
-    ghost blank: { drop len bytes ≡ replicate (128 - len) 0 },
+}
+
+// A line is its text.
+impl Model for Line {
+    ghost use Rattle.std.specs.Prelude.{ℕ, List};
+
+    ghost Value = { List ℕ };
+
+    ghost use Rattle.text.specs.Lines.{text, Kept};
+
+    ghost view = { text };
+
+    ghost invariant = { Kept };
 }

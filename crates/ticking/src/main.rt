@@ -4,38 +4,19 @@
 
 use group::Group;
 use orders::load::load;
-use orders::order::{Order, OrderKind};
+use orders::order::Order;
 use orders::start::{PaceKind, Start};
 use pace::Pace;
 use pace::halving::Halving;
 use pace::limits::Limits;
 use pace::two_phase::TwoPhase;
-use protocol::happening::{Happening, HappeningKind};
+use player::sizes::{INPUT_BYTES, LOG_SLOTS, ORDER_SLOTS};
+use protocol::happening::Happening;
 use protocol::plan::Plan;
 use slots::SlotList;
 use slots::timed::Timed;
 use std::io;
 use std::io::Read;
-
-const INPUT_BYTES: u64 = 65_536;
-
-const ORDER_SLOTS: usize = 8_192;
-
-const LOG_SLOTS: usize = 2_048;
-
-const NO_ORDER: Order = Order {
-    kind: OrderKind::Wait,
-    party: 0,
-    leg: 0,
-    tick: 0,
-};
-
-const NO_HAPPENING: Happening = Happening {
-    tick: 0,
-    owner: 0,
-    kind: HappeningKind::Sent,
-    link: 0,
-};
 
 // Answers the clock at which the ticks ended; a refused one ends them too.
 fn tick_one_by_one<P: Pace + Drop>(
@@ -54,14 +35,10 @@ fn tick_one_by_one<P: Pace + Drop>(
     group.clock()
 }
 
-// None where the limits or the plan are refused.
+// None where the limits or the plan are refused. A group holds its pace by value, so each pace has an arm.
 fn tick_to(start: Start, until: u32, slots: &mut [Happening]) -> Option<u32> {
-    let Ok(limits) = Limits::new(start.tmin, start.tmax) else {
-        return None;
-    };
-    let Ok(plan) = Plan::new(start.kind, start.parties) else {
-        return None;
-    };
+    let limits = Limits::new(start.tmin, start.tmax).ok()?;
+    let plan = Plan::new(start.kind, start.parties).ok()?;
     Some(match start.pace {
         PaceKind::Halving => tick_one_by_one(Halving::new(limits), plan, until, slots),
         PaceKind::TwoPhase => tick_one_by_one(TwoPhase::new(limits), plan, until, slots),
@@ -72,8 +49,8 @@ fn main(rt: HostRuntime) -> io::Result<()> {
     let heap = rt.alloc();
     let mut input = Vec::new(heap);
     rt.stdin().take(INPUT_BYTES).read_to_end(&mut input)?;
-    let mut order_slots = vec![in heap; NO_ORDER; ORDER_SLOTS]?;
-    let mut log_slots = vec![in heap; NO_HAPPENING; LOG_SLOTS]?;
+    let mut order_slots = vec![in heap; Order::default(); ORDER_SLOTS]?;
+    let mut log_slots = vec![in heap; Happening::default(); LOG_SLOTS]?;
     let mut orders = SlotList::new(order_slots.as_mut_slice());
     let clock = match load(input.as_slice(), &mut orders) {
         Ok(start) => tick_to(start, orders.last_tick(), log_slots.as_mut_slice()),

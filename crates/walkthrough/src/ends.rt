@@ -4,33 +4,16 @@ use graphml::export::export;
 use group::Group;
 use pace::Pace;
 use pace::limits::Limits;
+use player::sizes::OUTPUT_BYTES;
 use protocol::happening::Happening;
-use protocol::party::{Ending, Party, Roll, Stage, Standing};
+use protocol::party::{Party, Roll, Standing};
 use protocol::table::Root;
 use slots::SlotList;
 use std::io;
 use std::io::Write;
 
-const OUTPUT_BYTES: usize = 65_536;
-
-fn ending_word(ending: Ending) -> &'static str {
-    match ending {
-        Ending::Crashed => "crashed",
-        Ending::Stopped => "stopped",
-        Ending::Left => "left",
-    }
-}
-
-fn stage_word(stage: Stage) -> &'static str {
-    match stage {
-        Stage::Joining => "joining",
-        Stage::In => "in",
-        Stage::Leaving => "leaving",
-    }
-}
-
-// Whether a takeover timer of so many ticks, started at tick c, is up before the end that it waits for.
-fn tell_timer(rt: &HostRuntime, timer: &str, ticks: u32, c: u32, end: u32) -> io::Result<()> {
+// Tells of a takeover timer of so many ticks, started at tick c, that is up before the end that it waits for.
+fn tell_timer(rt: &impl Print, timer: &str, ticks: u32, c: u32, end: u32) -> io::Result<()> {
     let up = c as u64 + ticks as u64;
     if up < end as u64 {
         println!(rt;
@@ -42,7 +25,7 @@ fn tell_timer(rt: &HostRuntime, timer: &str, ticks: u32, c: u32, end: u32) -> io
 
 // Who had to end within `bound` ticks of tick c; shorter timers in use are held against it.
 fn tell_bound(
-    rt: &HostRuntime,
+    rt: &impl Print,
     who: Who,
     limits: Limits,
     c: u32,
@@ -60,7 +43,7 @@ fn tell_bound(
     tell_timer(rt, "3 * tmax - tmin", 3 * tmax - tmin, c, end)
 }
 
-fn tell_standing(rt: &HostRuntime, number: u8, standing: Standing) -> io::Result<Option<u32>> {
+fn tell_standing(rt: &impl Print, number: u8, standing: Standing) -> io::Result<Option<u32>> {
     let who = Who(number);
     match standing {
         Standing::Outside => {
@@ -68,13 +51,11 @@ fn tell_standing(rt: &HostRuntime, number: u8, standing: Standing) -> io::Result
             Ok(None)
         }
         Standing::Live(stage) => {
-            let word = stage_word(stage);
-            println!(rt; "{who} is {word}")?;
+            println!(rt; "{who} is {stage}")?;
             Ok(None)
         }
         Standing::Ended(ending, at, _) => {
-            let word = ending_word(ending);
-            println!(rt; "{who} {word} at {at}")?;
+            println!(rt; "{who} {ending} at {at}")?;
             Ok(Some(at))
         }
     }
@@ -82,15 +63,15 @@ fn tell_standing(rt: &HostRuntime, number: u8, standing: Standing) -> io::Result
 
 // A party on the roll and the root end together: whoever ended first sets the bound of the other.
 fn tell_party<P: Pace>(
-    rt: &HostRuntime,
+    rt: &impl Print,
     group: &Group<P>,
     number: u8,
     party: Party,
 ) -> io::Result<()> {
     let ended = tell_standing(rt, number, party.own.standing)?;
-    let Roll::On = party.note.roll else {
+    if party.note.roll != Roll::On {
         return Ok(());
-    };
+    }
     let limits = group.pace().limits();
     let d = group.patience();
     let after_root = d.saturating_add(limits.tmin());
@@ -104,19 +85,15 @@ fn tell_party<P: Pace>(
     tell_bound(rt, who, limits, c, bound, end)
 }
 
-pub(crate) fn tell_ends<P: Pace>(rt: &HostRuntime, group: &Group<P>) -> io::Result<()> {
+pub(crate) fn tell_ends<P: Pace>(rt: &impl Print, group: &Group<P>) -> io::Result<()> {
     let clock = group.clock();
     println!(rt)?;
     println!(rt; "the clock is {clock}")?;
     match group.root() {
         Root::Running => println!(rt; "root is running")?,
-        Root::Down(ending, at) => {
-            let word = ending_word(ending);
-            println!(rt; "root {word} at {at}")?;
-        }
+        Root::Down(ending, at) => println!(rt; "root {ending} at {at}")?,
     }
-    for i in 0..group.plan().parties() {
-        let number = i.saturating_add(1);
+    for number in 1..=group.plan().parties() {
         if let Some(party) = group.party(number) {
             tell_party(rt, group, number, party)?;
         }

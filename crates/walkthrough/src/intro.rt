@@ -5,25 +5,23 @@ use pace::total::total;
 use protocol::kind::GroupKind;
 use std::io;
 
-fn tell_waits<P: Pace>(rt: &HostRuntime, pace: &P) -> io::Result<()> {
+fn tell_waits<P: Pace>(rt: &impl Print, pace: &P) -> io::Result<()> {
     let rounds = pace.rounds();
     print!(rt; "R = {rounds} waits:")?;
-    for k in 0..rounds {
-        if let Some(wait) = pace.wait(k) {
-            print!(rt; " {wait}")?;
-        }
+    for wait in (0..rounds).filter_map(|k| pace.wait(k)) {
+        print!(rt; " {wait}")?;
     }
     let sum = total(pace);
     println!(rt; "; S, their sum, is {sum}")
 }
 
-pub(crate) fn introduce<P: Pace>(rt: &HostRuntime, group: &Group<P>) -> io::Result<()> {
+pub(crate) fn introduce<P: Pace>(rt: &impl Print, group: &Group<P>) -> io::Result<()> {
     let plan = group.plan();
     let parties = plan.parties();
-    let (kind, made_of) = match plan.kind() {
-        GroupKind::Closed => ("closed", "tmax + S"),
-        GroupKind::Expanding => ("expanding", "tmax + S + tmin"),
-        GroupKind::Dynamic => ("dynamic", "tmax + S + tmin"),
+    let kind = plan.kind();
+    let made_of = match kind {
+        GroupKind::Closed => "tmax + S",
+        GroupKind::Expanding | GroupKind::Dynamic => "tmax + S + tmin",
     };
     let limits = group.pace().limits();
     let tmin = limits.tmin();

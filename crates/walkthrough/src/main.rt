@@ -8,48 +8,43 @@ mod tell;
 mod walk;
 
 use crate::task::TASK;
-use crate::tell::refused_at_byte;
-use crate::walk::walk_capped;
+use crate::walk::walk;
 use orders::load::load;
-use orders::order::{Order, OrderKind};
-use orders::start::{PaceKind, Start};
+use orders::order::Order;
+use orders::start::PaceKind;
 use pace::halving::Halving;
 use pace::limits::Limits;
 use pace::two_phase::TwoPhase;
+use player::fault::FileFault;
+use player::notices::notices;
+use player::opening::open;
+use player::sizes::{INPUT_BYTES, ORDER_SLOTS};
 use slots::SlotList;
 use std::io;
-use std::io::Read;
+use std::io::{Read, Write};
 
-// More of the input is not read.
-const INPUT_BYTES: u64 = 65_536;
-
-const ORDER_SLOTS: usize = 8_192;
-
-// Plays at the pace that the schedule asks for.
-fn set_up(rt: &HostRuntime, start: Start, orders: &[Order]) -> io::Result<()> {
-    let limits = match Limits::new(start.tmin, start.tmax) {
-        Ok(limits) => limits,
-        Err(refusal) => return refused_at_byte(rt, 0, refusal.number()),
-    };
-    match start.pace {
-        PaceKind::Halving => walk_capped(rt, Halving::new(limits), start, orders),
-        PaceKind::TwoPhase => walk_capped(rt, TwoPhase::new(limits), start, orders),
-    }
+// Reads a schedule into the list, and plays it at the pace that it asks for. A group holds its pace by value, so each pace has an arm.
+fn read_and_walk(
+    rt: &HostRuntime,
+    bytes: &[u8],
+    list: &mut SlotList<'_, Order>,
+) -> Result<io::Result<()>, FileFault> {
+    let start = load(bytes, list)?;
+    let limits = Limits::new(start.tmin, start.tmax)?;
+    let orders = list.as_slice();
+    Ok(match start.pace {
+        PaceKind::Halving => walk(rt, open(Halving::new(limits), start)?, orders),
+        PaceKind::TwoPhase => walk(rt, open(TwoPhase::new(limits), start)?, orders),
+    })
 }
 
-// Reads a schedule, and plays it.
+// Plays a schedule; one that is refused is told as `runfile` tells it.
 fn play(rt: &HostRuntime, bytes: &[u8]) -> io::Result<()> {
-    let blank = Order {
-        kind: OrderKind::Wait,
-        party: 0,
-        leg: 0,
-        tick: 0,
-    };
-    let mut slots = vec![in rt.alloc(); blank; ORDER_SLOTS]?;
+    let mut slots = vec![in rt.alloc(); Order::default(); ORDER_SLOTS]?;
     let mut list = SlotList::new(slots.as_mut_slice());
-    match load(bytes, &mut list) {
-        Ok(start) => set_up(rt, start, list.as_slice()),
-        Err(fault) => refused_at_byte(rt, fault.byte, fault.number()),
+    match read_and_walk(rt, bytes, &mut list) {
+        Ok(walked) => walked,
+        Err(fault) => rt.stdout().write_all(notices(Err(fault.into())).as_slice()),
     }
 }
 

@@ -4,11 +4,10 @@ use pace::Pace;
 use protocol::happening::{Happening, HappeningKind};
 use protocol::party::Beat;
 use protocol::refusal::Refusal;
-use slots::SlotList;
 use std::{fmt, io};
 
 // The root or a party, by its number.
-#[derive(Clone, Copy)]
+#[derive(Clone, Copy, Debug, PartialEq, Eq)]
 pub struct Who(pub u8);
 
 impl fmt::Display for Who {
@@ -23,27 +22,22 @@ impl fmt::Display for Who {
 }
 
 fn is_from(leg: Option<Beat>, place: usize) -> bool {
-    match leg {
-        Some(beat) => beat.place == place,
-        None => false,
-    }
+    leg.is_some_and(|beat| beat.place == place)
 }
 
 // To whom the root sent the beat at a log place, which is still on its leg.
 fn addressee<P: Pace>(group: &Group<P>, place: usize) -> Who {
-    for i in 0..group.plan().parties() {
-        let number = i.saturating_add(1);
-        if let Some(party) = group.party(number) {
-            if is_from(party.legs.out, place) {
-                return Who(number);
-            }
-        }
-    }
-    Who(0)
+    (1..=group.plan().parties())
+        .find(|number| {
+            group
+                .party(*number)
+                .is_some_and(|party| is_from(party.legs.out, place))
+        })
+        .map_or(Who(0), Who)
 }
 
 fn tell_sending<P: Pace>(
-    rt: &HostRuntime,
+    rt: &impl Print,
     group: &Group<P>,
     owner: u8,
     place: usize,
@@ -63,14 +57,12 @@ fn tell_sending<P: Pace>(
 
 // Tells the record at a place of the log, just after it was written.
 pub(crate) fn tell<P: Pace>(
-    rt: &HostRuntime,
+    rt: &impl Print,
     group: &Group<P>,
-    log: &SlotList<'_, Happening>,
+    log: &[Happening],
     place: usize,
+    happening: Happening,
 ) -> io::Result<()> {
-    let Some(happening) = log.get(place) else {
-        return Ok(());
-    };
     let tick = happening.tick;
     let link = happening.link;
     let who = Who(happening.owner);
@@ -78,10 +70,7 @@ pub(crate) fn tell<P: Pace>(
     match happening.kind {
         HappeningKind::Sent => tell_sending(rt, group, happening.owner, place),
         HappeningKind::Arrived => {
-            let from = match log.get(link) {
-                Some(sending) => Who(sending.owner),
-                None => Who(0),
-            };
+            let from = log.get(link).map_or(Who(0), |sending| Who(sending.owner));
             println!(rt; "a beat of {from} arrives at {who} (h{place}, sent as h{link})")
         }
         HappeningKind::Lost => println!(rt; "a beat of {who} is lost (h{place}, sent as h{link})"),
@@ -95,27 +84,7 @@ pub(crate) fn tell<P: Pace>(
     }
 }
 
-// The question that was answered no.
-fn question(refusal: Refusal) -> &'static str {
-    match refusal {
-        Refusal::NoSuchParty => "is the party one of the plan's?",
-        Refusal::KindForbids => "does the kind of the group allow it?",
-        Refusal::WrongState => "is the party or root in the state that this wants?",
-        Refusal::NoBeat => "is the leg 1 to 3, with a beat on it?",
-        Refusal::ClockAtEnd => "is the clock below 4000000000?",
-        Refusal::BeatDue => "has each beat whose last tick is the clock been delivered or lost?",
-        Refusal::NoSlot => "are enough slots of the log free?",
-        Refusal::LogDiffers => "is the log the one that the group wrote?",
-    }
-}
-
-pub(crate) fn tell_refusal(rt: &HostRuntime, clock: u32, refusal: Refusal) -> io::Result<()> {
+pub(crate) fn tell_refusal(rt: &impl Print, clock: u32, refusal: Refusal) -> io::Result<()> {
     let number = refusal.number();
-    let asked = question(refusal);
-    println!(rt; "tick {clock}  refused by number {number}: {asked} No.")
-}
-
-// A fault of the schedule itself, as `runfile` tells it.
-pub(crate) fn refused_at_byte(rt: &HostRuntime, byte: usize, number: u8) -> io::Result<()> {
-    println!(rt; "refused byte {byte} number {number}")
+    println!(rt; "tick {clock}  refused by number {number}: {refusal} No.")
 }

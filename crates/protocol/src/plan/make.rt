@@ -1,15 +1,18 @@
 // Making and reading a plan.
-ghost use Rattle.std.specs.Prelude.{◌≡◌};
+ghost use Rattle.std.specs.Prelude.{◌≡◌, IfSome, is_some};
 ghost use Rattle.protocol.specs.Plans.{Planned};
+ghost use Rattle.protocol.specs.Runs.{is_party};
 
 use crate::kind::GroupKind;
+use crate::member::Member;
 use crate::plan::Plan;
 
 // The number of parties is not 1 to 32: question 5.
-#[derive(Clone, Copy)]
+#[derive(Clone, Copy, Debug, PartialEq, Eq)]
 pub struct BadPartyCount;
 
 impl BadPartyCount {
+    // Not a `From`: a byte alone would not say that it is the number of a question.
     pub fn number(self) -> u8
         ensures { result ≡ 5 }
     {
@@ -38,5 +41,17 @@ impl Plan {
         ensures { result ≡ self.now.n }
     {
         self.n
+    }
+
+    // The party of that number, if the plan has so many.
+    pub fn member(&self, number: u8) -> Option<Member>
+        ensures known { is_some result ≡ is_party self.now.n number }
+        ensures number { IfSome result (λ m. m.number ≡ number) }
+    {
+        if number >= 1 && number <= self.n {
+            Some(Member { number })
+        } else {
+            None
+        }
     }
 }

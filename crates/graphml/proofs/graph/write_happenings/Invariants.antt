@@ -1,8 +1,8 @@
-use Rattle.std.proofs.Common.{◌≡◌, drop}
+use Rattle.std.proofs.Common.{drop}
 use Rattle.graphml.specs.Body.{happenings_of}
 use Rattle.graphml.specs.State.{state}
 use Rattle.graphml.proofs.Loops.{Left}
 use Rattle.graphml.proofs.graph.write_happenings.Given as goal
 
-abbrev pub invariant-loop-k : goal.invariant-loop-k
-invariant-loop-k l = Left (state l.out) (happenings_of l.party l.k (drop l.k l.log)) (state l.initial.out) (happenings_of l.party 0 l.log) 37 × (l.out.bytes.ghost_name ≡ l.initial.out.bytes.ghost_name)
+abbrev pub invariant-loop-place : goal.invariant-loop-place
+invariant-loop-place l = Left (state l.out) (happenings_of l.party l.place (drop l.place l.log)) (state l.initial.out) (happenings_of l.party 0 l.log) 37

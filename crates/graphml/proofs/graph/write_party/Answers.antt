@@ -1,27 +1,25 @@
-use Rattle.std.proofs.Common.{◌∙◌}
-use Rattle.graphml.proofs.Party.{no_node, no_graph, all_in}
+use Rattle.std.proofs.Common.{◌≡◌}
+use Rattle.graphml.specs.Elements.{none}
+use Rattle.graphml.specs.Body.{party_then}
+use Rattle.graphml.specs.State.{state, drawn}
+use Rattle.graphml.proofs.Party.{no_graph, all_in}
 use Rattle.graphml.proofs.graph.write_party.Goals as goal
+use Rattle.graphml.proofs.graph.write_party.Goals.{After-close-run}
 
-pub returns-in-Err : goal.returns-in-Err
-returns-in-Err c =
-    let a = c.in-Err.ensures in
-    let x = no_node c.args.party c.args.log.now c.requires a.room a.after in
-    record { whole = x.0; after = x.1; sound = a.sound; same = a.same }
+pub returns-in-Err-clause-after : goal.returns-in-Err-clause-after
+returns-in-Err-clause-after c =
+    let a = c.in_ok-node.ensures in
+    let b = c.in-Err.ensures in
+    no_graph c.args.party c.args.log.now c.requires a.room a.after b.room b.after c.close.ensures.after
 
-pub returns-in-Err-open_graph : goal.returns-in-Err-open_graph
-returns-in-Err-open_graph c =
-    let a = c.in-Ok.ensures in
-    let b = c.in-Err-open_graph.ensures in
-    let d = c.close.ensures in
-    let x = no_graph c.args.party c.args.log.now c.requires a.room a.after b.room b.after d.after in
-    record { whole = x.0; after = x.1; sound = d.sound; same = d.same ∙ b.same ∙ a.same }
+closed : (c : After-close-run) → state c.close-run.new.out ≡ drawn (state c.args.out.now) (party_then c.args.log.now c.args.party none)
+closed c =
+    let a = c.in_ok-node.ensures in
+    let b = c.in-Ok.ensures in
+    all_in c.args.party c.args.log.now c.requires a.room a.after b.room b.after c.write_happenings-written.ensures.after c.close-node.ensures.after c.close-run.ensures.after
 
-pub returns : goal.returns
-returns c =
-    let a = c.in-Ok.ensures in
-    let b = c.in-Ok-open_graph.ensures in
-    let d = c.write_happenings-all.ensures in
-    let e = c.close-node.ensures in
-    let f = c.close-2.ensures in
-    let x = all_in c.args.party c.args.log.now c.requires a.room a.after b.room b.after d.whole d.after e.after f.after in
-    record { whole = x.0; after = x.1; sound = f.sound; same = f.same ∙ e.same ∙ d.same ∙ b.same ∙ a.same }
+pub returns-in-Ok-written-clause-after : goal.returns-in-Ok-written-clause-after
+returns-in-Ok-written-clause-after c = closed (goal.at.returns-in-Ok-written-clause-after c).After-close-run
+
+pub returns-in-Err-written-clause-after : goal.returns-in-Err-written-clause-after
+returns-in-Err-written-clause-after c = closed (goal.at.returns-in-Err-written-clause-after c).After-close-run

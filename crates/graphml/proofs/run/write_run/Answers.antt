@@ -12,12 +12,14 @@ returns c =
     let log = c.args.log.now in
     let n = c.args.parties in
     let h : 275 ≤ length out = omega arith in
-    let f = finished out log n h c.open-run.ensures.after c.write_body-whole.ensures.after c.close.ensures.after in
-    let all = sym (c.write_body-whole.ensures.whole ∙ ap (λ x. all_fits x.room (body log n)) c.open-run.ensures.after) in
+    let f = finished out log n h c.open-run.ensures.after c.write_body-written.ensures.after c.close.ensures in
+    let told = c.is_ok-whole.ensures.value ∙ c.write_body-written.ensures.whole in
+    let all = sym (told ∙ ap (λ x. all_fits x.room (body log n)) c.open-run.ensures.after) in
     let end : c.close.new.out.bytes.now ≡ over (in_frame (part log n (length out))) out = f.bytes in
     let left : c.close.new.out.bytes.now ≡ written log n out = left_as_written out log n h end in
+    let same = f.same in
     record {
-      answer = answered out log n h c.open-run.ensures.after c.write_body-whole.ensures.whole f;
+      answer = answered out log n h c.open-run.ensures.after told f;
       bytes = search rules;
       nested = nested out log n h (search rules) f.at;
       cut = λ e. ends_at (length out - 275) (body log n) (all ∙ e);

@@ -1,7 +1,9 @@
-use Rattle.std.proofs.Common.{◌≡◌, ℕ, List, length, Ok, Err, Result, sym, ap, ◌∙◌, subst, arith}
+use Rattle.std.proofs.Common.{◌≡◌, ℕ, List, [], ◌∷◌, length, Ok, Err, Result, sym, refl, ap, ◌∙◌, subst, arith, rules}
+use Rattle.std.specs.Result.{MatchResult, IsErrAnd}
 use Rattle.std.proofs.lemmas.Result.{err_from_is_err_and}
 use Rattle.slots.specs.declared.SlotList.{SlotList}
-use Rattle.slots.specs.Slots.{items, spare}
+use Rattle.slots.specs.declared.refusal.Refusal.{Refusal}
+use Rattle.slots.specs.Slots.{items, spare, Appended}
 use Rattle.slots.proofs.Growing.{extends_refl, extends_trans}
 use Rattle.orders.specs.declared.fault.ReadFault.{ReadFault}
 use Rattle.orders.specs.declared.fault.ReadCause.TheVariants.{Append}
@@ -15,6 +17,17 @@ use Rattle.orders.proofs.load.load.Goals as goal
 -- what the reader read first
 start_was : (bs bs' : List ℕ) (at : ℕ) (r : Result Start ReadFault) → bs' ≡ bs → at ≡ 0 → r ≡ start_at bs' at → start_at bs 0 ≡ r
 start_was bs bs' at r b a e = sym (e ∙ ap (λ z. start_at z at) b ∙ ap (λ z. start_at bs z) a)
+
+-- what the list answered, behind what `map_err` made of it
+refused : (r : Result (Unit {0}) Refusal) (q : Result (Unit {0}) ReadFault) (f : ReadFault) (P : Refusal → ReadFault → Type 0) → MatchResult r (λ x. q ≡ Ok x) (λ e. IsErrAnd q (P e)) → q ≡ Err f → (e : Refusal) × (r ≡ Err e) × P e f
+refused (Ok x) q f P h e = absurd (let z : ◌≡◌ {A = ℕ} 0 1 = cc in omega arith)
+refused (Err x) (Ok u) f P h e = absurd (let z : ◌≡◌ {A = ℕ} 0 1 = cc in omega arith)
+refused (Err x) (Err g) f P h e = let z : g ≡ f = cc in (x, refl, subst (λ y. P x y) z h)
+
+allowed : (r : Result (Unit {0}) Refusal) (q : Result (Unit {0}) ReadFault) (P : Refusal → ReadFault → Type 0) → MatchResult r (λ x. q ≡ Ok x) (λ e. IsErrAnd q (P e)) → q ≡ Ok tt → r ≡ Ok tt
+allowed (Ok x) q P h e = refl
+allowed (Err x) (Ok u) P h e = absurd h
+allowed (Err x) (Err g) P h e = absurd (let z : ◌≡◌ {A = ℕ} 0 1 = cc in omega arith)
 
 pub returns-in_err-start : goal.returns-in_err-start
 returns-in_err-start c =
@@ -79,18 +92,22 @@ returns-in_default c =
       reads_back = written_files;
     }
 
-pub returns-in-Err : goal.returns-in-Err
-returns-in-Err c =
+pub returns-in_err-map_err : goal.returns-in_err-map_err
+returns-in_err-map_err c =
     let l = c.loop-order in
-    let h = c.in-Err.ensures in
+    let h = c.append.ensures in
+    let m = refused _ _ _ _ c.map_err.ensures.cases c.in_err-map_err.was in
+    let told : c.in_err-map_err.field-0.0 ≡ fault c.place-byte.result (Append m.0) = search rules in
+    let same : c.append.new.self ≡ l.list = subst (λ z. MatchResult z (λ x. Appended l.list c.append.new.self (c.in-Some.order ∷ [])) (λ x. c.append.new.self ≡ l.list)) m.1 h.after in
+    let p = err_from_is_err_and c.from_residual-in_err-map_err.result c.from_residual-in_err-map_err.ensures.1 in
     let e =
     left_refused _ l.reader.bytes.now l.reader.at (items l.list) (spare l.list) _ l.reader.within
-    c.in-Some.order c.in-Err.refusal l.invariant.0
-    (ap Ok (sym c.in-Some.is) ∙ c.in_ok-order.ensures.answer) h.answer in
+    c.in-Some.order m.0 l.invariant.0
+    (ap Ok (sym c.in-Some.is) ∙ c.in_ok-order.ensures.answer) (sym m.1 ∙ h.answer) in
     record {
-      answer = ap (λ n. Err (fault n (Append c.in-Err.refusal))) c.place-byte.ensures ∙ sym (ap (λ z. z.answer) e);
-      items = ap (λ (m : SlotList Order). items m) h.after ∙ sym (ap (λ z. z.items) e);
-      spare = ap (λ (m : SlotList Order). spare m) h.after ∙ sym (ap (λ z. z.spare) e);
+      answer = p.1 ∙ ap Err (p.2 ∙ told ∙ ap (λ n. fault n (Append m.0)) c.place-byte.ensures) ∙ sym (ap (λ z. z.answer) e);
+      items = ap (λ (x : SlotList Order). items x) same ∙ sym (ap (λ z. z.items) e);
+      spare = ap (λ (x : SlotList Order). spare x) same ∙ sym (ap (λ z. z.spare) e);
       extends = extends_trans c.args.list.now l.list c.append.new.self l.invariant.1 h.extends;
       rises = λ r. h.rises (l.invariant.2 r);
       reads_back = written_files;
@@ -100,12 +117,15 @@ pub loop-order-preserved : goal.loop-order-preserved
 loop-order-preserved c =
     let l = c.loop-order in
     let n = c.in_ok-order.ensures in
-    let h = c.in_default-append.ensures in
-    let m = c.append.new.self in (
+    let h = c.append.ensures in
+    let m = c.append.new.self in
+    let k = allowed _ _ _ c.map_err.ensures.cases c.in_ok-map_err.was in
+    let after : Appended l.list m (c.in-Some.order ∷ []) =
+    subst (λ z. MatchResult z (λ x. Appended l.list m (c.in-Some.order ∷ [])) (λ x. m ≡ l.list)) k h.after in (
       left_more _ l.reader.bytes.now l.reader.at (items l.list) (spare l.list) _ l.reader.within
           c.in-Some.order c.order.new.self.bytes.now c.order.new.self.at (items m) (spare m) l.invariant.0
-          (ap Ok (sym c.in-Some.is) ∙ n.answer) h.answer
-          (ap (λ x. x.now) n.bytes) (n.place ∙ ap (λ r. after_order (Ok r) l.reader.at) c.in-Some.is) h.after.grown h.after.rest,
+          (ap Ok (sym c.in-Some.is) ∙ n.answer) (sym k ∙ h.answer)
+          (ap (λ x. x.now) n.bytes) (n.place ∙ ap (λ r. after_order (Ok r) l.reader.at) c.in-Some.is) after.grown after.rest,
       extends_trans c.args.list.now l.list m l.invariant.1 h.extends,
       λ r. h.rises (l.invariant.2 r),
     )

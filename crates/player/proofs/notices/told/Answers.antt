@@ -11,15 +11,15 @@ stopped : (x : PlayStop) → stopped_line x.order (fault_number x.fault) ≡ sto
 stopped x = let k = some_fault x.fault in ap (stopped_line x.order) k.1 ∙ sym (ap (λ n. line_of n x.order) k.1)
 
 pub tell_stop-requires : goal.tell_stop-requires
-tell_stop-requires c = let h = cut_le c.args.cut in let e = ap length c.told_cut-lines.ensures in omega arith
+tell_stop-requires c = let h = cut_le c.args.file.cut in let e = ap length c.told_cut-lines.ensures in omega arith
 
 pub returns-in-Err : goal.returns-in-Err
 returns-in-Err c =
     let x = c.in-Err.stop in
     c.tell_stop.ensures ∙ ap (λ t. t ++ stopped_line x.order (fault_number x.fault)) c.told_cut-lines.ensures
-    ∙ ap (λ t. cut_line c.args.cut ++ t) (stopped x)
-    ∙ ap (λ r. cut_line c.args.cut ++ stop_line (stop_told r)) (sym c.in-Err.is)
+    ∙ ap (λ t. cut_line c.args.file.cut ++ t) (stopped x)
+    ∙ ap (λ r. cut_line c.args.file.cut ++ stop_line (stop_told r)) (sym c.in-Err.is)
 
 pub returns-in_default : goal.returns-in_default
 returns-in_default c =
-    c.told_cut-lines.ensures ∙ sym (append-nil (cut_line c.args.cut)) ∙ ap (λ r. cut_line c.args.cut ++ stop_line (stop_told r)) (sym c.in_default.is)
+    c.told_cut-lines.ensures ∙ sym (append-nil (cut_line c.args.file.cut)) ∙ ap (λ r. cut_line c.args.file.cut ++ stop_line (stop_told r)) (sym c.in_default.is)

@@ -7,24 +7,19 @@ use Rattle.player.proofs.Turns.{turn, passed_on}
 use Rattle.player.proofs.Obeying.{some_fault, made_no_more, made_own}
 use Rattle.player.proofs.play.obey.Goals as goal
 
-pub returns-in_err-tick_to : goal.returns-in_err-tick_to
-returns-in_err-tick_to g c =
+pub returns-in_err-tick_to-clause-made : goal.returns-in_err-tick_to-clause-made
+returns-in_err-tick_to-clause-made g c =
     let a = c.args.group.now in
     let o = c.args.order in
     let e = c.in_err-tick_to.ensures in
     let y = c.tick_to.new in
     let p = err_from_is_err_and c.from_residual.result c.from_residual.ensures.1 in
     let k = some_fault c.in_err-tick_to.field-0.0 in
-    record {
-      pace = e.pace;
-      plan = e.plan;
-      made =
-          made_no_more (g.P.Pace.means a.pace) a.plan (replicate (o.tick - a.table.clock) Tick) a.table y.group.table c.args.log.now y.log
-          (at_most_one (own_call o)) _ _ k.0 k.1 (ap fault_told (p.1 ∙ ap Err p.2)) e.made;
-    }
+    made_no_more (g.P.Pace.means a.pace) a.plan (replicate (o.tick - a.table.clock) Tick) a.table y.group.table c.args.log.now y.log
+    (at_most_one (own_call o)) _ _ k.0 k.1 (ap fault_told (p.1 ∙ ap Err p.2)) e.made
 
-pub returns-in_err-perform : goal.returns-in_err-perform
-returns-in_err-perform g c =
+pub returns-in_err-perform-clause-made : goal.returns-in_err-perform-clause-made
+returns-in_err-perform-clause-made g c =
     let means = g.P.Pace.means in
     let a = c.args.group.now in
     let l = c.args.log.now in
@@ -35,16 +30,11 @@ returns-in_err-perform g c =
     let y = c.perform.new in
     let w = turn means a.pace x.group.pace a.plan x.group.plan (capacity l) c.in-Some.call x.group.table y.self.table x.log y.log _ t.pace t.plan t.made.extends.long e.did in
     let told = passed_on c.from_residual-in_err-perform.result _ c.from_residual-in_err-perform.ensures.1 in
-    record {
-      pace = e.pace ∙ t.pace;
-      plan = e.plan ∙ t.plan;
-      made =
-          made_own (means a.pace) a.plan (replicate (o.tick - a.table.clock) Tick) a.table x.group.table l x.log
-          c.in-Some.call (own_call o) y.self.table y.log _ _ c.in-Some.ensures told t.made w e.did.extends;
-    }
+    made_own (means a.pace) a.plan (replicate (o.tick - a.table.clock) Tick) a.table x.group.table l x.log
+    c.in-Some.call (own_call o) y.self.table y.log _ _ c.in-Some.ensures told t.made w e.did.extends
 
-pub returns-in_ok-perform : goal.returns-in_ok-perform
-returns-in_ok-perform g c =
+pub returns-in_ok-perform-clause-made : goal.returns-in_ok-perform-clause-made
+returns-in_ok-perform-clause-made g c =
     let means = g.P.Pace.means in
     let a = c.args.group.now in
     let l = c.args.log.now in
@@ -54,10 +44,5 @@ returns-in_ok-perform g c =
     let e = c.in_ok-perform.ensures in
     let y = c.perform.new in
     let w = turn means a.pace x.group.pace a.plan x.group.plan (capacity l) c.in-Some.call x.group.table y.self.table x.log y.log 0 t.pace t.plan t.made.extends.long e.did in
-    record {
-      pace = e.pace ∙ t.pace;
-      plan = e.plan ∙ t.plan;
-      made =
-          made_own (means a.pace) a.plan (replicate (o.tick - a.table.clock) Tick) a.table x.group.table l x.log
-          c.in-Some.call (own_call o) y.self.table y.log 0 0 c.in-Some.ensures refl t.made w e.did.extends;
-    }
+    made_own (means a.pace) a.plan (replicate (o.tick - a.table.clock) Tick) a.table x.group.table l x.log
+    c.in-Some.call (own_call o) y.self.table y.log 0 0 c.in-Some.ensures refl t.made w e.did.extends

@@ -9,5 +9,5 @@ use Rattle.player.proofs.play.play.Given as goal
 abbrev pub invariant-loop-place : goal.invariant-loop-place
 invariant-loop-place g l =
     let played = plays (g.P.Pace.means l.initial.group.pace) l.initial.group.plan (capacity l.initial.log) in
-    Alike (played 0 l.all (play l.initial.group.table l.initial.log)) (played l.place (drop l.place l.all) (play l.group.table l.log))
+    Alike (played 0 l.all (play l.initial.group.table l.initial.log)) (played l.place-counter (drop l.place-counter l.all) (play l.group.table l.log))
     × (l.group.pace ≡ l.initial.group.pace) × (l.group.plan ≡ l.initial.group.plan) × Extends l.initial.log l.log

@@ -5,7 +5,6 @@ use Rattle.pace.specs.Waits.{capped}
 use Rattle.pace.specs.Fronts.{capped_lawful}
 use Rattle.slots.specs.Slots.{items}
 use Rattle.protocol.specs.declared.happening.Happening.{Happening}
-use Rattle.protocol.specs.declared.plan.Plan.{Plan}
 use Rattle.protocol.specs.Group.{opened}
 use Rattle.protocol.specs.Views.{play}
 use Rattle.graphml.specs.declared.answer.Exported.{Exported}
@@ -13,10 +12,17 @@ use Rattle.graphml.specs.declared.answer.Refusal.{Refusal}
 use Rattle.player.specs.Playing.{stop_told}
 use Rattle.player.specs.Told.{bytes_told, lines_told}
 use Rattle.player.specs.Program.{cap_and_plan_no, Prints, SetUp}
-use Rattle.player.proofs.Files.{none_no, set_up, told_within, played}
+use Rattle.player.proofs.Files.{not_set_up, set_up, told_within, played}
 use Rattle.player.proofs.program.play_at.Given as given
 use Rattle.player.proofs.program.play_at.Goals as goal
 use Rattle.player.proofs.program.play_at.Goals.{After-export}
+
+pub returns-in_err-group-clause-run : goal.returns-in_err-group-clause-run
+returns-in_err-group-clause-run g c =
+    let p = err_from_is_err_and c.from_residual.result c.from_residual.ensures.1 in
+    let r = p.1 ∙ ap Err p.2 in
+    let e = c.in_err-group.ensures in
+    not_set_up _ _ _ _ _ _ _ _ e.granted.1 e.refused r
 
 -- what came of it, once the run was exported
 came : (g : given.Over) (c : After-export g) (hs' : List Happening) (r : Result Exported Refusal) (bytes : ℕ) (lines : List ℕ) → hs' ≡ c.play-played.new.log.slots.now →
@@ -25,39 +31,27 @@ came : (g : given.Over) (c : After-export g) (hs' : List Happening) (r : Result 
 came g c hs' r bytes lines back was prints =
     let means = g.P.Pace.means in
     let start = c.args.start in
-    let set = c.in_ok-set.ensures in
-    let made = c.in_ok-plan.ensures in
-    let o = c.open-group.ensures in
+    let group = c.in_ok-group.group in
+    let o = c.in_ok-group.ensures in
     let p = c.play-played.ensures in
     let q = p.played in
     let e = c.export.ensures in
-    let pace = c.open-group.result.pace in
-    let plan : Plan = c.open-group.result.plan in
-    let m : Meaning = capped pace.m (means pace.pace) in
-    let sound = capped_lawful pace.m (means pace.pace) pace.some (g.met.P.Pace.lawful pace.pace) in
+    let m : Meaning = capped group.pace.m (means group.pace.pace) in
+    let sound = capped_lawful group.pace.m (means group.pace.pace) group.pace.some (g.met.P.Pace.lawful group.pace.pace) in
     let x = c.play-played.new in
-    let same : m ≡ capped start.cap (means c.args.pace) =
-    ap (λ q. capped q.m (means q.pace)) o.pace ∙ ap (λ n. capped n (means c.set.new.self.pace)) set.answer.1
-    ∙ ap (λ q. capped start.cap (means q)) (set.below ∙ c.new-pace.ensures.0) in
-    let new : c.open-group.result.table ≡ (opened m plan).table =
-    o.table ∙ ap (λ q. (opened (capped q.m (means q.pace)) c.in_ok-plan.plan).table) (sym o.pace) ∙ ap (λ q. (opened m q).table) (sym o.plan) in
-    set_up start _ m plan _ _ hs' _ _ bytes lines
-    (none_no start set.answer.0 made.0) same (ap (λ (q : Plan). q.kind) o.plan ∙ made.1) (ap (λ (q : Plan). q.n) o.plan ∙ made.2)
-    (played m sound plan (items c.args.orders.now) c.args.log_slots.now c.open-group.result.table x.group.table c.new-log.result x.log (stop_told c.play-played.result)
-    new c.new-log.ensures.empty c.new-log.ensures.spare q.after q.answer q.extends
+    let same : m ≡ capped start.cap (means c.args.pace) = ap (λ n. capped n (means group.pace.pace)) o.pace.1 ∙ ap (λ q. capped start.cap (means q)) o.pace.0 in
+    set_up start _ m group.plan _ _ hs' _ _ bytes lines (o.granted.0 refl) same o.plan.0 o.plan.1
+    (played m sound group.plan (items c.args.orders.now) c.args.log_slots.now group.table x.group.table c.new-log.result x.log (stop_told c.play-played.result)
+    (o.table ∙ ap (λ q. (opened q group.plan).table) (sym same)) c.new-log.ensures.empty c.new-log.ensures.spare q.after q.answer q.extends
     hs' c.args.out.now c.export.new.out x.group.plan c.export.result bytes lines
     back p.plan e.answer e.bytes e.nested e.cut e.edges (subst (λ y. Prints y (stop_told c.play-played.result) bytes lines) (sym was) prints))
 
-pub returns-in_err-exported : goal.returns-in_err-exported
-returns-in_err-exported g c =
+pub returns-in_err-exported-clause-run : goal.returns-in_err-exported-clause-run
+returns-in_err-exported-clause-run g c =
     let p = err_from_is_err_and c.from_residual-in_err-exported.result c.from_residual-in_err-exported.ensures.1 in
     let r = p.1 ∙ ap Err p.2 in
     let tie = c.play-played.ensures.played.extends.lent ∙ c.new-log.ensures.lent in
-    record {
-      run =
-          came g (goal.at.returns-in_err-exported g c).After-export _ _ _ _ (search rules) c.in_err-exported.was (ap bytes_told r, ap lines_told r);
-      within = omega (arith, ap bytes_told r);
-    }
+    came g (goal.at.returns-in_err-exported-clause-run g c).After-export _ _ _ _ (search rules) c.in_err-exported.was (ap bytes_told r, ap lines_told r)
 
 pub returns : goal.returns
 returns g c =

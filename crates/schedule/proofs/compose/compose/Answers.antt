@@ -1,10 +1,10 @@
-use Rattle.std.proofs.Common.{◌+◌, Ok, Err, sym, refl, ap, ◌∙◌, arith, rules}
+use Rattle.std.proofs.Common.{◌≡◌, ◌+◌, Ok, Err, sym, refl, ap, ◌∙◌, arith, rules}
 use Rattle.std.proofs.lemmas.Result.{err_from_is_err_and, IfOk-from_err}
 use Rattle.slots.specs.Slots.{items, spare}
 use Rattle.schedule.specs.Cuts.{lines_in}
 use Rattle.schedule.specs.Texts.{reads}
 use Rattle.schedule.proofs.Rendered.{rendered_texts}
-use Rattle.schedule.proofs.Whole.{begun, went_on, slots_hold, complained, wrote, wrote_not, reads_sound}
+use Rattle.schedule.proofs.Whole.{begun, went_on, slots_hold, complained, made, reads_sound}
 use Rattle.schedule.proofs.compose.compose.Goals as goal
 
 pub returns-in_err-start : goal.returns-in_err-start
@@ -55,8 +55,8 @@ returns-in_err-read_orders c =
       reads_back = rendered_texts;
     }
 
-pub returns-in-Some : goal.returns-in-Some
-returns-in-Some c =
+pub returns : goal.returns
+returns c =
     let text = c.args.text.now in
     let slots = c.args.order_slots.now in
     let new = c.new-lines.ensures in
@@ -67,9 +67,10 @@ returns-in-Some c =
     let l = c.read_orders.new.list in
     let a = begun text c.new-lines.result.rest.now c.new-lines.result.number slots (Ok s) m.number (lines_in m.rest.now) new.text new.number c.in_ok-start.ensures in
     let h = c.in_ok-read_orders.ensures in
-    let w = c.in-Some.ensures in
     let e = a ∙ went_on s m.number (lines_in m.rest.now) (items c.new-list.result) (spare c.new-list.result) slots _ list.empty list.spare (h.read s) in
-    let d = wrote (reads text slots) s m2.number (items l) (spare l) c.as_slice.result.now c.args.out.now c.write.new.out e c.as_slice.ensures c.in-Some.size slots (reads_sound text slots) w.answer w.after in
+    let line : c.number.result + 1 ≡ m2.number + 1 = let n = c.number.ensures.number in omega arith in
+    let d = made (reads text slots) s m2.number (items l) (spare l) c.as_slice.result.now slots c.args.out.now c.write.new.out e c.as_slice.ensures (reads_sound text slots) (c.number.result + 1) line
+    c.write.result c.ok_or.result c.write.ensures.answer c.write.ensures.after c.ok_or.ensures.value in
     let tie = h.extends.lent ∙ list.lent in
     record {
       answer = d.answer;
@@ -77,30 +78,5 @@ returns-in-Some c =
       slots = slots_hold (reads text slots) _ l slots _ e refl refl (search rules) (reads_sound text slots);
       within = d.within;
       loads = d.loads;
-      reads_back = rendered_texts;
-    }
-
-pub returns-in-None : goal.returns-in-None
-returns-in-None c =
-    let text = c.args.text.now in
-    let slots = c.args.order_slots.now in
-    let new = c.new-lines.ensures in
-    let list = c.new-list.ensures in
-    let m = c.read_start.new.lines in
-    let s = c.in_ok-start.start in
-    let m2 = c.read_orders.new.lines in
-    let l = c.read_orders.new.list in
-    let a = begun text c.new-lines.result.rest.now c.new-lines.result.number slots (Ok s) m.number (lines_in m.rest.now) new.text new.number c.in_ok-start.ensures in
-    let h = c.in_ok-read_orders.ensures in
-    let w = c.in-None.ensures in
-    let e = a ∙ went_on s m.number (lines_in m.rest.now) (items c.new-list.result) (spare c.new-list.result) slots _ list.empty list.spare (h.read s) in
-    let d = wrote_not (reads text slots) s m2.number (items l) (spare l) c.as_slice.result.now c.args.out.now c.write.new.out e c.as_slice.ensures (c.number.result + 1) (let n = c.number.ensures.number in omega arith) w.answer w.after in
-    let tie = h.extends.lent ∙ list.lent in
-    record {
-      answer = d.0;
-      output = d.1;
-      slots = slots_hold (reads text slots) _ l slots _ e refl refl (search rules) (reads_sound text slots);
-      within = tt;
-      loads = tt;
       reads_back = rendered_texts;
     }

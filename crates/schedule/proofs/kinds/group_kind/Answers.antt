@@ -1,19 +1,22 @@
-use Rattle.std.proofs.Common.{rules}
-use Rattle.schedule.specs.Words.{group_word}
+use Rattle.std.proofs.Common.{◌≡◌, codes, rules, arith}
+use Rattle.std.proofs.lemmas.Slice.Eq.{text_from_reads}
+use Rattle.schedule.specs.Words.{group_word, named}
 use Rattle.schedule.proofs.kinds.group_kind.Goals as goal
 
-pub returns-then-is : goal.returns-then-is
-unfolding group_word
-returns-then-is c = search rules
+pub returns-in-closed : goal.returns-in-closed
+unfolding group_word named
+returns-in-closed c =
+    let word : c.args.word.now ≡ codes "closed" = text_from_reads c.args.word.now (codes "closed") (omega arith) (search rules) in
+    rw word
 
-pub returns-then-is-2 : goal.returns-then-is-2
-unfolding group_word
-returns-then-is-2 c = search rules
+pub returns-in-expanding : goal.returns-in-expanding
+unfolding group_word named
+returns-in-expanding c =
+    let word : c.args.word.now ≡ codes "expanding" = text_from_reads c.args.word.now (codes "expanding") (omega arith) (search rules) in
+    rw word
 
-pub returns-then-is-3 : goal.returns-then-is-3
-unfolding group_word
-returns-then-is-3 c = search rules
-
-pub returns-else-is-3 : goal.returns-else-is-3
-unfolding group_word
-returns-else-is-3 c = search rules
+pub returns-in-dynamic : goal.returns-in-dynamic
+unfolding group_word named
+returns-in-dynamic c =
+    let word : c.args.word.now ≡ codes "dynamic" = text_from_reads c.args.word.now (codes "dynamic") (omega arith) (search rules) in
+    rw word

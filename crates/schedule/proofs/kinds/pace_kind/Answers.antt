@@ -1,15 +1,16 @@
-use Rattle.std.proofs.Common.{rules}
-use Rattle.schedule.specs.Words.{pace_word}
+use Rattle.std.proofs.Common.{◌≡◌, codes, rules, arith}
+use Rattle.std.proofs.lemmas.Slice.Eq.{text_from_reads}
+use Rattle.schedule.specs.Words.{pace_word, named}
 use Rattle.schedule.proofs.kinds.pace_kind.Goals as goal
 
-pub returns-then-is : goal.returns-then-is
-unfolding pace_word
-returns-then-is c = search rules
+pub returns-in-halving : goal.returns-in-halving
+unfolding pace_word named
+returns-in-halving c =
+    let word : c.args.word.now ≡ codes "halving" = text_from_reads c.args.word.now (codes "halving") (omega arith) (search rules) in
+    rw word
 
-pub returns-then-is-2 : goal.returns-then-is-2
-unfolding pace_word
-returns-then-is-2 c = search rules
-
-pub returns-else-is-2 : goal.returns-else-is-2
-unfolding pace_word
-returns-else-is-2 c = search rules
+pub returns-in-116 : goal.returns-in-116
+unfolding pace_word named
+returns-in-116 c =
+    let word : c.args.word.now ≡ codes "two-phase" = text_from_reads c.args.word.now (codes "two-phase") (omega arith) (search rules) in
+    rw word

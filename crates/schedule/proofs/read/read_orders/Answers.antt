@@ -13,9 +13,9 @@ pub loop-text-preserved : goal.loop-text-preserved
 loop-text-preserved c =
     let l = c.loop-text in
     let m = c.next.new.self in
-    let h = c.in-Some.ensures in
+    let h = c.in-Some.ensures.steps in
     let a = c.in_ok-add_order.ensures in (
-      λ s. l.invariant.0 s ∙ order_asked s l.lines.number m.number (lines_in l.lines.rest.now) (lines_in m.rest.now) c.in-Some.text.now (items l.list) (spare l.list) h.answer h.left h.number
+      λ s. l.invariant.0 s ∙ order_asked s l.lines.number m.number (lines_in l.lines.rest.now) (lines_in m.rest.now) c.in-Some.text.now (items l.list) (spare l.list) h.0 h.1
           ∙ ap (λ n. order_met n (orders_from s m.number (lines_in m.rest.now)) (items l.list) (spare l.list) (order_in (line_words c.in-Some.text.now))) (sym c.number.ensures.number)
           ∙ a.met (orders_from s m.number (lines_in m.rest.now)),
       extends_trans c.args.list.now l.list c.add_order.new.list l.invariant.1 a.extends,
@@ -25,12 +25,12 @@ pub returns-in_err-add_order : goal.returns-in_err-add_order
 returns-in_err-add_order c =
     let l = c.loop-text in
     let m = c.next.new.self in
-    let h = c.in-Some.ensures in
+    let h = c.in-Some.ensures.steps in
     let a = c.in_err-add_order.ensures in
     let p = err_from_is_err_and c.from_residual.result c.from_residual.ensures.1 in
     record {
       read =
-          λ s. l.invariant.0 s ∙ order_asked s l.lines.number m.number (lines_in l.lines.rest.now) (lines_in m.rest.now) c.in-Some.text.now (items l.list) (spare l.list) h.answer h.left h.number
+          λ s. l.invariant.0 s ∙ order_asked s l.lines.number m.number (lines_in l.lines.rest.now) (lines_in m.rest.now) c.in-Some.text.now (items l.list) (spare l.list) h.0 h.1
           ∙ ap (λ n. order_met n (orders_from s m.number (lines_in m.rest.now)) (items l.list) (spare l.list) (order_in (line_words c.in-Some.text.now))) (sym c.number.ensures.number)
           ∙ a.met (orders_from s m.number (lines_in m.rest.now))
           ∙ sym (ap (λ r. past_orders s r m.number (items c.add_order.new.list) (spare c.add_order.new.list)) (p.1 ∙ ap Err p.2));
@@ -40,10 +40,10 @@ returns-in_err-add_order c =
 pub returns : goal.returns
 returns c =
     let l = c.loop-text in
-    let h = c.in_default.ensures in
+    let h = c.in_default.ensures.steps in
     record {
       read =
-          λ s. l.invariant.0 s ∙ orders_over s l.lines.number (lines_in l.lines.rest.now) (items l.list) (spare l.list) h.answer
-          ∙ ap (λ n. ended (Ok s) n (items l.list) (spare l.list)) (sym h.number);
+          λ s. l.invariant.0 s ∙ orders_over s l.lines.number (lines_in l.lines.rest.now) (items l.list) (spare l.list) h.0
+          ∙ ap (λ n. ended (Ok s) n (items l.list) (spare l.list)) (sym h.2);
       extends = l.invariant.1;
     }

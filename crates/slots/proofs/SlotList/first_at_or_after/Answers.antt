@@ -1,17 +1,13 @@
-use Rattle.std.proofs.Common.{arith, below_more}
-use Rattle.slots.proofs.Growing.{items_length}
-use Rattle.slots.proofs.Places.{time_at}
+use Rattle.std.proofs.Common.{◌<◌, ◌≤◌, rules, tests}
+use Rattle.std.proofs.lemmas.Iterator.{YieldsList-from_slice, IsFirst-from_position}
+use Rattle.slots.specs.Slots.{items}
+use Rattle.slots.proofs.Places.{first_found}
 use Rattle.slots.proofs.SlotList.first_at_or_after.Goals as goal
 
-pub returns-then-tick : goal.returns-then-tick
-returns-then-tick g c =
-    let l = c.args.self.now in
-    let n = items_length l in
-    let e = time_at g.T.Timed.time l.slots.now l.len c.loop-place.place _ l.within (omega arith) c.index-slots-place.is in
-    (omega arith, omega arith, c.loop-place.invariant)
-
-pub loop-place-preserved : goal.loop-place-preserved
-loop-place-preserved g c =
-    let l = c.args.self.now in
-    let e = time_at g.T.Timed.time l.slots.now l.len c.loop-place.place _ l.within (omega arith) c.index-slots-place.is in
-    below_more _ _ c.loop-place.invariant (omega arith)
+pub returns : goal.returns
+returns g c =
+    let time = g.T.Timed.time in
+    let t = c.args.tick in
+    let xs = items c.args.self.now in
+    first_found time t xs c.position.result
+    (IsFirst-from_position _ _ _ (λ x. t ≤ time x) (λ x. time x < t) c.position.ensures.ran (YieldsList-from_slice xs cc) (λ x q k. search (rules, tests)) (λ x q k. search (rules, tests)))

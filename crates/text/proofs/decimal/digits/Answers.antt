@@ -25,4 +25,4 @@ pub returns : goal.returns
 returns c =
     let none : c.loop-rest.rest ≡ 0 = omega arith in
     let e = ap (λ r. front r ++ drop c.loop-rest.first c.loop-rest.bytes) (sym none) ∙ c.loop-rest.invariant.3 in
-    record { within = c.loop-rest.invariant.0; long = c.loop-rest.invariant.2; text = e; writes = subst (Writes c.args.n) (sym e) (writes c.args.n (omega arith)) }
+    record { text = e; writes = subst (Writes c.args.n) (sym e) (writes c.args.n (omega arith)) }

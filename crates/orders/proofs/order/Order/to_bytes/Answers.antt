@@ -2,8 +2,8 @@ use Rattle.std.proofs.Common.{arith}
 use Rattle.orders.proofs.Rereading.{order_again}
 use Rattle.orders.proofs.order.Order.to_bytes.Goals as goal
 
-pub returns : goal.returns
-returns c =
-    let k = c.to_byte.ensures in
+pub returns-clause-reads_back : goal.returns-clause-reads_back
+returns-clause-reads_back c =
+    let k = c.into.ensures in
     let t = c.to_be_bytes.ensures in
-    record { written = simp (k, t); reads_back = λ p q. simp (k, t) (order_again p q c.args.self (omega arith)) }
+    λ p q. simp (k, t) (order_again p q c.args.self (omega arith))

@@ -1,0 +1,27 @@
+// The group that a file asks for.
+ghost use Rattle.std.specs.Prelude.{◌≡◌, ◌↔◌, IfOk, IfErr, IsOk};
+ghost use Rattle.pace.specs.Waits.{capped};
+ghost use Rattle.protocol.specs.Group.{opened};
+ghost use Rattle.player.specs.Faults.{TellsOfNoRecord};
+ghost use Rattle.player.specs.Program.{cap_and_plan_no};
+
+use crate::fault::FileFault;
+use group::Group;
+use orders::start::Start;
+use pace::Pace;
+use pace::cap::Cap;
+use protocol::plan::Plan;
+
+// The pace is put under the file's cap, and only then is the plan asked about.
+pub fn open<P: Pace + Drop>(pace: P, start: Start) -> Result<Group<Cap<P>>, FileFault>
+    ensures granted { IsOk result ↔ cap_and_plan_no start ≡ 0 }
+    ensures refused { IfErr result (TellsOfNoRecord (cap_and_plan_no start)) }
+    ensures pace { IfOk result (λ g. (g.pace.pace ≡ pace) × (g.pace.m ≡ start.cap)) }
+    ensures plan { IfOk result (λ g. (g.plan.kind ≡ start.kind) × (g.plan.n ≡ start.parties)) }
+    ensures table { IfOk result (λ g. g.table ≡ (opened (capped start.cap (P.means pace)) g.plan).table) }
+{
+    let mut capped = Cap::new(pace);
+    capped.set(start.cap as u32)?;
+    let plan = Plan::new(start.kind, start.parties)?;
+    Ok(Group::open(capped, plan))
+}
