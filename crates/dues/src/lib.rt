@@ -6,5 +6,5 @@ mod patience;
 mod timer;
 
 pub use self::next::next_due;
-pub use self::patience::{patience_for, patience_of};
+pub use self::patience::patience_of;
 pub use self::timer::Timer;

@@ -1,7 +1,7 @@
 // The next tick at which something is due: each tick before it only counts the clock.
 ghost use Rattle.std.specs.Prelude.{◌≡◌, ℕ, ◌<◌, ◌≤◌, false};
 ghost use Rattle.protocol.specs.Group.{round_ends};
-ghost use Rattle.protocol.specs.Quiet.{clocked, Quiet};
+ghost use Rattle.protocol.specs.Quiet.{clocked, QuietUntil};
 
 use crate::timer::Timer;
 use pace::Pace;
@@ -21,8 +21,7 @@ fn round_due(table: &Table) -> u32
 // The clock, or a later tick that is at most the clock's limit; nothing is due before it.
 pub fn next_due<P: Pace>(pace: &P, plan: &Plan, table: &Table) -> u32
     ensures late { table.now.clock ≤ result }
-    ensures limit { table.now.clock < result → result ≤ 4000000000 }
-    ensures quiet { (c : ℕ) → table.now.clock ≤ c → c < result → Quiet (P.means pace.now) plan.now table.now c }
+    ensures until { QuietUntil (P.means pace.now) plan.now table.now result }
 {
     let parties = Timer::at(pace, plan, table).parties_due(table.members(plan));
     round_due(table)

@@ -24,7 +24,7 @@ pub fn patience_of<P: Pace>(pace: &P, kind: GroupKind) -> u32
 }
 
 // D, or 2 tmax where nobody is silent for that long. D is never less, so that the waits are summed only where a party may end.
-pub fn patience_for<P: Pace>(pace: &P, plan: &Plan, table: &Table) -> u32
+pub(crate) fn patience_for<P: Pace>(pace: &P, plan: &Plan, table: &Table) -> u32
     ensures { DoesFor (P.means pace.now) plan.now table.now result }
 {
     let least = 2 * pace.limits().tmax();

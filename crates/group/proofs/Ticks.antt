@@ -11,7 +11,7 @@ use Rattle.protocol.specs.declared.happening.Happening.{Happening}
 use Rattle.protocol.specs.declared.table.Table.{Table}
 use Rattle.protocol.specs.declared.plan.Plan.{Plan}
 use Rattle.protocol.specs.Patience.{trip, patience}
-use Rattle.protocol.specs.Party.{nobody, lost, live, calls_in, times, times_as, times_live}
+use Rattle.protocol.specs.Party.{nobody, missed_all, live, calls_in, times, times_as, times_live}
 use Rattle.protocol.specs.Group.{Play, any, shorter, shortest, started, sent, settled_as, settled, amid, timer_log, live_log, rounded, timed, later, ticked}
 use Rattle.protocol.specs.Views.{play}
 use Rattle.protocol.proofs.Members.{any_take, fold_take}
@@ -53,14 +53,14 @@ timed_alike d e tmin trip n s h =
 -- nobody has missed every round: the next one starts, and the root sends
 pub sends_is :
     (m : Meaning) (n rounds w tmin : ℕ) (t t' : Table) (l l' : SlotList Happening) →
-    rounds ≡ length m.waits → list_any (lost rounds) (take n t.parties) ≡ false →
+    rounds ≡ length m.waits → list_any (missed_all rounds) (take n t.parties) ≡ false →
     w ≡ fold (λ best p. shorter m.waits 0 best p) m.tmax (take n t.parties) → tmin ≡ m.tmin →
     Passed (send_in (t.clock + tmin)) send_log_in n (started w (play t l)).table t' l l' → Acted n (settled m n) t t' l l'
 sends_is m n rounds w tmin t t' l l' er none ew em p =
     let old = play t l in
     let length_is : w ≡ shortest m.waits m.tmax n t.parties = ew ∙ fold_take (λ best q. shorter m.waits 0 best q) 1 n m.tmax t.parties in
-    let goes_on : any (lost (length m.waits)) n t.parties ≡ false =
-    ap (λ (r : ℕ). any (lost r) n t.parties) (sym er) ∙ sym (any_take (lost rounds) n t.parties) ∙ none in
+    let goes_on : any (missed_all (length m.waits)) n t.parties ≡ false =
+    ap (λ (r : ℕ). any (missed_all r) n t.parties) (sym er) ∙ sym (any_take (missed_all rounds) n t.parties) ∙ none in
     record {
       extends = p.extends;
       few = p.few;

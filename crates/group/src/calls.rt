@@ -9,22 +9,29 @@ use crate::acts::{do_crash, do_deliver, do_join, do_leave, do_lose};
 use crate::advancing::tick_until;
 use crate::group::Group;
 use crate::rounds::do_tick;
+use dues::next_due;
 use pace::Pace;
 use protocol::call::Call;
 use protocol::happening::Happening;
 use protocol::refusal::Refusal;
-use questions::{ask_beat, ask_crash, ask_join, ask_leave, ask_tick};
+use questions::{ask_beat, ask_crash, ask_join, ask_leave, ask_quiet_tick, ask_tick};
 use slots::SlotList;
 
 impl<P: Pace> Group<P> {
-    // Closes the present tick.
+    // Closes the present tick; one at which nothing is due only counts the clock.
     pub fn tick(&mut self, log: &mut SlotList<'_, Happening>) -> Result<(), Refusal>
         ensures pace { self.new.pace ≡ self.old.pace }
         ensures plan { self.new.plan ≡ self.old.plan }
         ensures did { Performed (P.means self.old.pace) self.old.plan Tick self.old.table self.new.table log.old log.new (told result) }
     {
-        ask_tick(&self.plan, &self.table, log)?;
-        do_tick(&self.pace, &self.plan, &mut self.table, log);
+        if self.table.clock < self.quiet_until {
+            ask_quiet_tick(&self.plan, &self.table, log)?;
+            self.table.clock += 1;
+        } else {
+            ask_tick(&self.plan, &self.table, log)?;
+            do_tick(&self.pace, &self.plan, &mut self.table, log);
+            self.quiet_until = next_due(&self.pace, &self.plan, &self.table);
+        }
         Ok(())
     }
 
@@ -34,6 +41,7 @@ impl<P: Pace> Group<P> {
         ensures plan { self.new.plan ≡ self.old.plan }
         ensures made { Made (P.means self.old.pace) self.old.plan (replicate (until - self.old.table.clock) Tick) self.old.table self.new.table log.old log.new (told result) }
     {
+        self.quiet_until = 0;
         tick_until(&self.pace, &self.plan, &mut self.table, log, until)
     }
 
@@ -50,6 +58,7 @@ impl<P: Pace> Group<P> {
         ensures did { Performed (P.means self.old.pace) self.old.plan (Deliver party leg) self.old.table self.new.table log.old log.new (told result) }
     {
         let (member, beat) = ask_beat(&self.plan, &self.table, log, party, leg)?;
+        self.quiet_until = 0;
         do_deliver(&mut self.table, log, member, leg, beat);
         Ok(())
     }
@@ -67,6 +76,7 @@ impl<P: Pace> Group<P> {
         ensures did { Performed (P.means self.old.pace) self.old.plan (Lose party leg) self.old.table self.new.table log.old log.new (told result) }
     {
         let (member, beat) = ask_beat(&self.plan, &self.table, log, party, leg)?;
+        self.quiet_until = 0;
         do_lose(&mut self.table, log, member, leg, beat);
         Ok(())
     }
@@ -79,6 +89,7 @@ impl<P: Pace> Group<P> {
         ensures did { Performed (P.means self.old.pace) self.old.plan (Crash party) self.old.table self.new.table log.old log.new (told result) }
     {
         let member = ask_crash(&self.plan, &self.table, log, party)?;
+        self.quiet_until = 0;
         do_crash(&mut self.table, log, member);
         Ok(())
     }
@@ -92,6 +103,7 @@ impl<P: Pace> Group<P> {
     {
         let member = ask_join(&self.plan, &self.table, log, party)?;
         let trip = self.pace.limits().tmin();
+        self.quiet_until = 0;
         do_join(&mut self.table, log, member, trip);
         Ok(())
     }
@@ -104,6 +116,7 @@ impl<P: Pace> Group<P> {
         ensures did { Performed (P.means self.old.pace) self.old.plan (Leave party) self.old.table self.new.table log.old log.new (told result) }
     {
         let member = ask_leave(&self.plan, &self.table, log, party)?;
+        self.quiet_until = 0;
         do_leave(&mut self.table, log, member);
         Ok(())
     }

@@ -3,7 +3,7 @@ use Rattle.std.proofs.Common.{◌≡◌, ℕ, ◌+◌, Bool, true, false, length
 use Rattle.pace.specs.Meaning.{Meaning}
 use Rattle.protocol.specs.declared.plan.Plan.{Plan}
 use Rattle.protocol.specs.declared.call.Call.TheVariants.{Tick}
-use Rattle.protocol.specs.Party.{lost}
+use Rattle.protocol.specs.Party.{missed_all}
 use Rattle.protocol.specs.Group.{Play, any, counted, settled_as, rounded_as, round_ends, ticked}
 use Rattle.protocol.specs.Runs.{number, perform, unless}
 
@@ -13,7 +13,7 @@ module _ (m : Meaning) (n : ℕ) where
   settled_clock false s = refl
 
   pub rounded_clock : (b : Bool) (s : Play) → (rounded_as b m n s).table.clock ≡ s.table.clock
-  rounded_clock true s = settled_clock (any (lost (length m.waits)) n (counted n s).table.parties) (counted n s)
+  rounded_clock true s = settled_clock (any (missed_all (length m.waits)) n (counted n s).table.parties) (counted n s)
   rounded_clock false s = refl
 
 module _ (m : Meaning) (plan : Plan) where

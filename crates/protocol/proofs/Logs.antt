@@ -22,7 +22,7 @@ use Rattle.protocol.specs.declared.call.Call.TheVariants.{Tick, Deliver, Lose, C
 use Rattle.pace.specs.Meaning.{Meaning}
 use Rattle.protocol.specs.Patience.{trip, patience}
 use Rattle.protocol.specs.Walk.{folds, walks}
-use Rattle.protocol.specs.Party.{nobody, fresh, on_leg, off_leg, off_out, off_reply, off_entry, arrives, hears_as, heeds, joined, missed, sends, sends_as, listed, lost, times, times_as, times_live, calls_in, live}
+use Rattle.protocol.specs.Party.{nobody, fresh, on_leg, off_leg, off_out, off_reply, off_entry, arrives, hears_as, heeds, joined, missed, sends, sends_as, on_roll, missed_all, times, times_as, times_live, calls_in, live}
 use Rattle.protocol.specs.Group.{Play, the, happens, tells_of, links, sender, answer_log, runs, delivered_as, lost_as, crashed, joins, leaves, any, shortest, counted, send_log, sent, stopped, started, settled_as, rounded_as, rounded, round_ends, live_log, timer_log, timed, later, opened}
 use Rattle.protocol.specs.Runs.{number, done, unless, perform, played}
 use Rattle.protocol.specs.Beats.{is_arrival, is_loss, settles, nothing, happening_at, SentBy, OtherEnd, Linked, LossesLinked, SettledOnce, Unsettled, Edge, edges, beat_edge, delivery, deliveries, PutBy}
@@ -258,7 +258,7 @@ module _ (c : ℕ) where
   -- the turn of one party in a pass
 
   sends_turn : (roll : Roll) (last j : ℕ) (p : Party) (log : List Happening) →
-      Turned 1 j (length log) (cond (listed roll) (tells_of c 0 Sent log) log) p (sends_as roll last (length log) p)
+      Turned 1 j (length log) (cond (on_roll roll) (tells_of c 0 Sent log) log) p (sends_as roll last (length log) p)
   sends_turn On last j p log = put_out j _ _ p _ (omega arith) (sent_push log c 0 _)
   sends_turn Off last j p log = stays j _ _ 1 p
   sends_turn Struck last j p log = stays j _ _ 1 p
@@ -396,7 +396,7 @@ module _ (o : Moment) (n : ℕ) where
   starts : (last : ℕ) (s : Play) → Holds s → Goes s (sent last n s)
   starts last s t =
       let c = s.table.clock in
-      let grows : (j : ℕ) (log : List Happening) (p : Party) → Onward c log (send_log c log p) = λ j log p. cond_onward c (listed p.note.roll) _ _ (told c log _ refl refl) in (
+      let grows : (j : ℕ) (log : List Happening) (p : Party) → Onward c log (send_log c log p) = λ j log p. cond_onward c (on_roll p.note.roll) _ _ (told c log _ refl refl) in (
         passes o n c 1 (λ _ log p. sends last (length log) p) (λ _ log p. send_log c log p) grows (λ j log p. sends_turn c p.note.roll last j p log) s.table.parties s.log t,
         folds_onward c (λ _ log p. send_log c log p) grows 1 n s.log s.table.parties,
       )
@@ -410,7 +410,7 @@ module _ (o : Moment) (n : ℕ) where
   settles_round false m s t = starts (s.table.clock + trip m) (started (shortest m.waits m.tmax n s.table.parties) s) t
 
   rounds : (b : Bool) (m : Meaning) (s : Play) → Holds s → Goes s (rounded_as b m n s)
-  rounds true m s t = settles_round (any (lost (length m.waits)) n (counted n s).table.parties) m (counted n s) (counts s t).0
+  rounds true m s t = settles_round (any (missed_all (length m.waits)) n (counted n s).table.parties) m (counted n s) (counts s t).0
   rounds false m s t = (t, stay s.table.clock s.log)
 
   times_all : (d l x : ℕ) (s : Play) → Holds s → Goes s (timed d l x n s)

@@ -14,7 +14,7 @@ use Rattle.protocol.specs.Party.{nobody, due, calls_in, times, times_as, times_l
 use Rattle.protocol.specs.Group.{Play, any, amid, timer_log, live_log, timed, rounded, rounded_as, later, ticked}
 use Rattle.protocol.specs.Runs.{asks, log_asks, is_own_log, number, perform, unless}
 use Rattle.protocol.specs.Making.{makes, Same}
-use Rattle.protocol.specs.Quiet.{at_clock, timer_rests, Rests, Quiet}
+use Rattle.protocol.specs.Quiet.{clocked, at_clock, timer_rests, Rests, Quiet, QuietUntil}
 use Rattle.protocol.proofs.Walks.{walks_still}
 use Rattle.protocol.proofs.Making.{same_trans, tick_on}
 
@@ -40,6 +40,15 @@ asked_tick true true x e = e
 asked_tick true false x e = absurd (omega arith)
 asked_tick false b x e = absurd (omega arith)
 
+-- nothing is known to be quiet
+pub never_quiet : (m : Meaning) (plan : Plan) (t : Table) → QuietUntil m plan t 0
+never_quiet m plan t = record { limit = λ h. omega arith; quiet = λ c from before. absurd (omega (arith, before)) }
+
+-- what is quiet from the clock on is quiet from a tick later on
+pub quiet_later : (m : Meaning) (plan : Plan) (t : Table) (b : ℕ) → t.clock < b → QuietUntil m plan t b → QuietUntil m plan (clocked (t.clock + 1) t) b
+quiet_later m plan t b h u =
+    record { limit = λ later. u.limit h; quiet = λ c from before. let q = u.quiet c (omega (arith, from)) before in record { root = q.root; parties = q.parties } }
+
 module _ (m : Meaning) (plan : Plan) (room : ℕ) where
   abbrev log_ready : Play → Type 0
   log_ready s = log_asks (2 * plan.n) room s ≡ 0
@@ -50,9 +59,9 @@ module _ (m : Meaning) (plan : Plan) (room : ℕ) where
       (λ k h. (q.parties k h).legs)).1
 
   -- where nothing is due, the log alone may refuse a tick
-  quiet_is_granted : (s : Play) → s.table.clock < 4000000000 → Quiet m plan s.table s.table.clock → log_ready s → number plan room Tick s ≡ 0
-  quiet_is_granted s h q e =
-      ap₂ (λ a b. asks a 10 (asks (not b) 11 (log_asks (2 * plan.n) room s))) (lt-ltb s.table.clock 4000000000 h) (none_due s.table s.table.clock q) ∙ e
+  pub quiet_asks : (s : Play) → s.table.clock < 4000000000 → Quiet m plan s.table s.table.clock → number plan room Tick s ≡ log_asks (2 * plan.n) room s
+  quiet_asks s h q =
+      ap₂ (λ a b. asks a 10 (asks (not b) 11 (log_asks (2 * plan.n) room s))) (lt-ltb s.table.clock 4000000000 h) (none_due s.table s.table.clock q)
 
   own_length : (s : Play) → log_ready s → length s.log ≡ s.table.logged
   own_length s e =
@@ -97,7 +106,7 @@ module _ (m : Meaning) (plan : Plan) (room : ℕ) where
       let now = s.table.clock in
       let s₁ = at_clock (now + 1) s in
       let still = q now (omega arith) (omega arith) in
-      let z = quiet_is_granted s (omega arith) still ready in
+      let z = quiet_asks s (omega arith) still ∙ ready in
       let one = tick_on m plan room until s s₁ (omega arith) z (sym (quiet_tick_only_counts s z ready still)) in
       same_trans _ _ _ one
       (quiet_on d until s₁ c (omega arith) low limit (ready_later s (now + 1) (omega arith) ready) (λ k a b. let r = q k (omega arith) b in record { root = r.root; parties = r.parties }))

@@ -15,7 +15,7 @@ use Rattle.protocol.specs.declared.table.Root.{Root}
 use Rattle.protocol.specs.declared.table.Root.TheVariants.{Running, Down}
 use Rattle.protocol.specs.declared.kind.GroupKind.{GroupKind}
 use Rattle.protocol.specs.declared.kind.GroupKind.TheVariants.{Closed, Expanding, Dynamic}
-use Rattle.protocol.specs.Party.{hears_as, arrives, heeds, on_leg, off_leg, off_out, off_reply, off_entry, answers, crashes, joined, left, missed, sends, lost, due, times, times_as, times_live, calls_in, live, fresh}
+use Rattle.protocol.specs.Party.{hears_as, arrives, heeds, on_leg, off_leg, off_out, off_reply, off_entry, answers, crashes, joined, now_leaving, missed, sends, missed_all, due, times, times_as, times_live, calls_in, live, fresh}
 use Rattle.protocol.specs.Kept.{Terms, LawfulTerms, Kept, Scene, Gone}
 
 whole_step : (c n : ℕ) → (c + n - c) % n ≡ 0
@@ -119,7 +119,7 @@ module _ (m : Terms) (kind : GroupKind) (law : LawfulTerms m kind) (q : Bool) (c
   pub join : (place : ℕ) → (kind ≡ Closed → ⊥) → p.own.standing ≡ Outside → Keeps (joined c (c + m.tmin) place p)
   join place wide e = let f = whole_step c m.tmin in grind (arith, nat_tests)
 
-  pub leave : (kind ≡ Closed → ⊥) → p.own.standing ≡ Live In → Keeps (left p)
+  pub leave : (kind ≡ Closed → ⊥) → p.own.standing ≡ Live In → Keeps (now_leaving p)
   leave wide e = grind (arith, nat_tests)
 
   pub root_stops : r ≡ Running → q ≡ false → Kept m kind q c (Down Stopped c) a l (missed p)
@@ -135,13 +135,13 @@ module _ (m : Terms) (kind : GroupKind) (law : LawfulTerms m kind) (q : Bool) (c
       let g₀ = law.step 0 in
       grind (arith, nat_tests)
 
-  pub unlost : r ≡ Running → lost m.span (missed p) ≡ false → (missed p).note.misses < m.span
-  unlost up h = grind (arith, nat_tests)
+  pub missed_fewer : r ≡ Running → missed_all m.span (missed p) ≡ false → (missed p).note.misses < m.span
+  missed_fewer up h = grind (arith, nat_tests)
 
   pub sent_quiet : (place : ℕ) → due c p ≡ false → due c (sends (c + m.tmin) place (missed p)) ≡ false
   sent_quiet place h = grind (arith, nat_tests)
 
-  pub trusted : q ≡ true → c ≡ a + l → due c p ≡ false → lost m.span (missed p) ≡ false
+  pub trusted : q ≡ true → c ≡ a + l → due c p ≡ false → missed_all m.span (missed p) ≡ false
   trusted good end quiet = grind (arith, nat_tests)
 
   abbrev Later : Party → Type 0

@@ -51,12 +51,6 @@ module _ {S A : Type 0} (f : ℕ → S → A → A) (g : ℕ → S → A → S) 
       let n = folds_more k i s xs d h' in
       (cc, cc)
 
--- one turn of a loop that only keeps a state
-pub folds_turn :
-    {S A : Type 0} (g : ℕ → S → A → S) (k i : ℕ) (s : S) (xs : List A) (d : A) (t : S) →
-    t ≡ folds g k i s xs → i < length xs → g (k + i) t (get_or xs i d) ≡ folds g k (i + 1) s xs
-folds_turn g k i s xs d t e h = ap (λ u. g (k + i) u (get_or xs i d)) e ∙ sym (folds_more (λ _ _ x. x) g k i s xs d h)
-
 -- what holds of each element, changed or not, holds after a walk
 pub walks_all :
     {S A : Type 0} (f : ℕ → S → A → A) (g : ℕ → S → A → S) (P Q : A → Type 0) →

@@ -21,7 +21,7 @@ use Rattle.protocol.specs.declared.call.Call.{Call}
 use Rattle.protocol.specs.declared.call.Call.TheVariants.{Tick, Deliver, Lose, Crash, Join, Leave}
 use Rattle.pace.specs.Meaning.{Meaning, Lawful}
 use Rattle.protocol.specs.Patience.{trip, patience}
-use Rattle.protocol.specs.Party.{nobody, fresh, on_leg, due, lost, missed, sends}
+use Rattle.protocol.specs.Party.{nobody, fresh, on_leg, due, missed_all, missed, sends}
 use Rattle.protocol.specs.Group.{Play, the, with_parties, with_root, delivered, delivered_as, loses, lost_as, crashed, root_crashed, joins, leaves, any, shorter, shortest, counted, settled_as, rounded_as, rounded, round_ends, runs, timed, later, ticked, opened}
 use Rattle.protocol.specs.Runs.{number, done, unless, perform, played, answered, unharmed, spares, asks, may_join, may_leave, is_outside, is_in, is_party, is_there, log_asks}
 use Rattle.protocol.specs.Beats.{FreeFor, BeatsTakeFreeLegs}
@@ -142,11 +142,11 @@ module _ (μ : Meaning) (sound : Lawful μ) (kind : GroupKind) (n : ℕ) where
     ps_long : n ≤ length ps
     ps_long = walks_long _ _ 1 n 0 s.table.parties n w.long
 
-    -- where no loss or crash was, no party is lost
-    none_lost : q ≡ true → any (lost (length μ.waits)) n ps ≡ false
-    none_lost good =
-        false_any (lost (length μ.waits)) 1 n ps nobody ps_long
-        (λ k h. subst (λ p. lost (length μ.waits) p ≡ false) (sym (counted_at s k h w.long))
+    -- where no loss or crash was, no party has missed all rounds
+    none_missed_all : q ≡ true → any (missed_all (length μ.waits)) n ps ≡ false
+    none_missed_all good =
+        false_any (missed_all (length μ.waits)) 1 n ps nobody ps_long
+        (λ k h. subst (λ p. missed_all (length μ.waits) p ≡ false) (sym (counted_at s k h w.long))
         (step.trusted M kind law q _ _ _ _ w.scene _ (w.each k h) good end (quiet k h)))
 
     stops : q ≡ false → Amid M kind q n (settled_as true μ n (counted n s)).table
@@ -161,11 +161,11 @@ module _ (μ : Meaning) (sound : Lawful μ) (kind : GroupKind) (n : ℕ) where
       quiet = λ k h. subst (λ p. due s.table.clock p ≡ false) (sym (counted_at s k h w.long)) (quiet k h);
     }
 
-    module _ (kept : any (lost (length μ.waits)) n ps ≡ false) where
+    module _ (kept : any (missed_all (length μ.waits)) n ps ≡ false) where
       few : (k : ℕ) → k < n → (missed (get_or s.table.parties k nobody)).note.misses < length μ.waits
       few k h =
-          step.unlost M kind law q _ _ _ _ w.scene _ (w.each k h) up
-          (subst (λ p. lost (length μ.waits) p ≡ false) (counted_at s k h w.long) (any_false (lost (length μ.waits)) 1 n ps nobody kept k h ps_long))
+          step.missed_fewer M kind law q _ _ _ _ w.scene _ (w.each k h) up
+          (subst (λ p. missed_all (length μ.waits) p ≡ false) (counted_at s k h w.long) (any_false (missed_all (length μ.waits)) 1 n ps nobody kept k h ps_long))
 
       abbrev next : ℕ
       next = shortest μ.waits μ.tmax n ps
@@ -209,11 +209,11 @@ module _ (μ : Meaning) (sound : Lawful μ) (kind : GroupKind) (n : ℕ) where
             quiet = λ k h. (both k h).1;
           }
 
-    harmed : any (lost (length μ.waits)) n ps ≡ true → (q' : Bool) → q ≡ q' → q ≡ false
-    harmed bad true e = absurd (clash _ bad (none_lost e))
+    harmed : any (missed_all (length μ.waits)) n ps ≡ true → (q' : Bool) → q ≡ q' → q ≡ false
+    harmed bad true e = absurd (clash _ bad (none_missed_all e))
     harmed bad false e = e
 
-    settles : (b : Bool) → any (lost (length μ.waits)) n ps ≡ b → Amid M kind q n (settled_as b μ n (counted n s)).table
+    settles : (b : Bool) → any (missed_all (length μ.waits)) n ps ≡ b → Amid M kind q n (settled_as b μ n (counted n s)).table
     settles true e = stops (harmed e q refl)
     settles false e = goes_on e
 
@@ -224,7 +224,7 @@ module _ (μ : Meaning) (sound : Lawful μ) (kind : GroupKind) (n : ℕ) where
     rounds : (b : Bool) → round_ends s.table ≡ b → Amid M kind q n (rounded_as b μ n s).table
     rounds true e =
         let both = ends_up s.table.root s.table.clock (s.table.start + s.table.length) e in
-        settles q s w both.0 both.1 quiet (any (lost (length μ.waits)) n (counted n s).table.parties) refl
+        settles q s w both.0 both.1 quiet (any (missed_all (length μ.waits)) n (counted n s).table.parties) refl
     rounds false e = record { whole = w; early = not_yet _ _ _ _ w.scene e; quiet = quiet }
 
   whole_ticks : (q : Bool) (s : Play) → All q s → any (due s.table.clock) n s.table.parties ≡ false → All q (later (timed (patience μ kind) μ.tmin (trip μ) n (rounded μ n s)))

@@ -22,7 +22,7 @@ use Rattle.std.specs.Option.{unwrap_or}
 use Rattle.pace.specs.Meaning.{Meaning}
 use Rattle.protocol.specs.Patience.{trip, patience}
 use Rattle.protocol.specs.Walk.{folds, walks}
-use Rattle.protocol.specs.Party.{live, listed, lost, missed, sends, times, calls_in, crashes, joined, left, arrives, on_leg, off_leg, fresh, nobody, silent_end}
+use Rattle.protocol.specs.Party.{live, on_roll, missed_all, missed, sends, times, calls_in, crashes, joined, now_leaving, arrives, on_leg, off_leg, fresh, nobody, silent_end}
 
 -- all that a call changes: the table of the group, and its log
 pub record Play : Type 0 where
@@ -131,7 +131,7 @@ joins m i s = joins_as (trip m) i s
 
 -- party i is leaving
 abbrev pub leaves : ℕ → Play → Play
-leaves i s = with_party i (left (the i s.table)) (tells_of s.table.clock i IsLeaving s.log) s.table
+leaves i s = with_party i (now_leaving (the i s.table)) (tells_of s.table.clock i IsLeaving s.log) s.table
 
 -- tick
 
@@ -141,7 +141,7 @@ any f n ps = folds (λ _ b p. b || f p) 1 n false ps
 
 -- the wait so far, or a party's own at its misses where that is shorter
 abbrev pub shorter : List ℕ → ℕ → ℕ → Party → ℕ
-shorter waits k w p = cond (listed p.note.roll) (min w (unwrap_or (slice_get waits p.note.misses) w)) w
+shorter waits k w p = cond (on_roll p.note.roll) (min w (unwrap_or (slice_get waits p.note.misses) w)) w
 
 -- the smallest wait among the parties on the roll, tmax with none
 abbrev pub shortest : List ℕ → ℕ → ℕ → List Party → ℕ
@@ -162,7 +162,7 @@ counted n s = amid (walks (λ _ (u : ℕ) p. missed p) (λ _ (u : ℕ) _. u) 1 n
 
 -- the root tells that it sends
 abbrev pub send_log : ℕ → List Happening → Party → List Happening
-send_log clock log p = cond (listed p.note.roll) (tells_of clock 0 Sent log) log
+send_log clock log p = cond (on_roll p.note.roll) (tells_of clock 0 Sent log) log
 
 -- each party on the roll, rising, gets a beat on leg 1
 abbrev pub sent : ℕ → ℕ → Play → Play
@@ -190,7 +190,7 @@ settled_as false m n s =
 
 -- once the misses are counted: the root stops where a party has missed all rounds, otherwise it starts the next round and sends
 abbrev pub settled : Meaning → ℕ → Play → Play
-settled m n s = settled_as (any (lost (length m.waits)) n s.table.parties) m n s
+settled m n s = settled_as (any (missed_all (length m.waits)) n s.table.parties) m n s
 
 abbrev pub rounded_as : Bool → Meaning → ℕ → Play → Play
 rounded_as true m n s = settled m n (counted n s)
@@ -221,6 +221,17 @@ abbrev pub timer_log : Standing → ℕ → ℕ → ℕ → ℕ → ℕ → List
 timer_log Outside clock patience tmin since i log = log
 timer_log (Live g) clock patience tmin since i log = live_log (nat_le patience (clock - since)) (calls_in g tmin (clock - since)) g clock i log
 timer_log (Ended how at g) clock patience tmin since i log = log
+
+-- the word of that record, if there is one
+abbrev pub live_word : Bool → Bool → Stage → Option HappeningKind
+live_word true calls g = Some (ended_word (silent_end g))
+live_word false true g = Some Sent
+live_word false false g = None
+
+abbrev pub timer_word : Standing → ℕ → ℕ → ℕ → ℕ → Option HappeningKind
+timer_word Outside clock patience tmin since = None
+timer_word (Live g) clock patience tmin since = live_word (nat_le patience (clock - since)) (calls_in g tmin (clock - since)) g
+timer_word (Ended how at g) clock patience tmin since = None
 
 -- each party's timer, rising
 abbrev pub timed : ℕ → ℕ → ℕ → ℕ → Play → Play

@@ -52,10 +52,10 @@ live (Live g) = true
 live (Ended how at g) = false
 
 -- on the roll
-abbrev pub listed : Roll → Bool
-listed On = true
-listed Off = false
-listed Struck = false
+abbrev pub on_roll : Roll → Bool
+on_roll On = true
+on_roll Off = false
+on_roll Struck = false
 
 -- the legs: 1 out from the root, 2 the reply, 3 the joining beats
 
@@ -133,8 +133,8 @@ abbrev pub joined : ℕ → ℕ → ℕ → Party → Party
 joined clock last place p =
     party p.note (owning (Live Joining) clock) (legs_of p.legs.out p.legs.reply (Some (beat last false place)))
 
-abbrev pub left : Party → Party
-left p = party p.note (owning (Live Leaving) p.own.since) p.legs
+abbrev pub now_leaving : Party → Party
+now_leaving p = party p.note (owning (Live Leaving) p.own.since) p.legs
 
 -- tick
 
@@ -156,8 +156,8 @@ abbrev pub missed : Party → Party
 missed p = party (missed_as p.note.roll p.note) p.own p.legs
 
 -- a party on the roll that has missed all the rounds of the pace
-abbrev pub lost : ℕ → Party → Bool
-lost rounds p = listed p.note.roll && p.note.misses == rounds
+abbrev pub missed_all : ℕ → Party → Bool
+missed_all rounds p = on_roll p.note.roll && p.note.misses == rounds
 
 -- the root's beat goes out to a party on the roll, which is not heard yet in the new round
 abbrev pub sends_as : Roll → ℕ → ℕ → Party → Party

@@ -1,5 +1,5 @@
 -- A tick at which nothing is due.
-use Rattle.std.specs.Prelude.{◌≡◌, ℕ, ◌-◌, ◌<◌, Bool, true, false, not, ◌&&◌, nat_lt, slice_index_or}
+use Rattle.std.specs.Prelude.{◌≡◌, ℕ, ◌-◌, ◌<◌, ◌≤◌, Bool, true, false, not, ◌&&◌, nat_lt, slice_index_or}
 use Rattle.pace.specs.Meaning.{Meaning}
 use Rattle.protocol.specs.declared.party.Party.{Party}
 use Rattle.protocol.specs.declared.party.Standing.{Standing}
@@ -32,3 +32,8 @@ pub record Rests (patience tmin c : ℕ) (p : Party) : Type 0 where
 pub record Quiet (m : Meaning) (plan : Plan) (t : Table) (c : ℕ) : Type 0 where
   pub root : round_ends (clocked c t) ≡ false
   pub parties : (k : ℕ) → k < plan.n → Rests (patience m plan.kind) m.tmin c (slice_index_or t.parties k nobody)
+
+-- nothing is due from the clock up to b, which the clock may come to
+pub record QuietUntil (m : Meaning) (plan : Plan) (t : Table) (b : ℕ) : Type 0 where
+  pub limit : t.clock < b → b ≤ 4000000000
+  pub quiet : (c : ℕ) → t.clock ≤ c → c < b → Quiet m plan t c

@@ -1,7 +1,9 @@
 // The steps of one party, each in place: the calls of a group are made of them.
 ghost use Rattle.std.specs.Prelude.{◌≡◌, ◌<◌};
-ghost use Rattle.protocol.specs.Party.{beat, live, listed, hears_as, answers, missed, crashes, sends, due, due_on, lost, times, on_leg, off_leg, arrives, joined};
+ghost use Rattle.protocol.specs.Party.{beat, live, on_roll, hears_as, answers, missed, crashes, sends, due, due_on, missed_all, times, on_leg, off_leg, arrives, joined};
+ghost use Rattle.protocol.specs.Group.{timer_word};
 
+use crate::happening::HappeningKind;
 use crate::party::*;
 use crate::table::Root;
 use pace::limits::Limits;
@@ -88,7 +90,7 @@ impl Party {
 
     // The root's beat goes out, where the party is on the roll; answers whether it did. A new round begins unheard.
     pub fn send(&mut self, last: u32, place: usize) -> bool
-        ensures answer { result ≡ listed self.old.note.roll }
+        ensures answer { result ≡ on_roll self.old.note.roll }
         ensures after { self.new ≡ sends last place self.old }
     {
         match self.note.roll {
@@ -102,29 +104,40 @@ impl Party {
     }
 
     // On the roll, and silent for all the rounds of the pace.
-    pub fn is_lost(&self, rounds: u32) -> bool
-        ensures { result ≡ lost rounds self.now }
+    pub fn has_missed_all(&self, rounds: u32) -> bool
+        ensures { result ≡ missed_all rounds self.now }
     {
         self.note.roll == Roll::On && self.note.misses == rounds
     }
 
-    // The party's timer. Patience comes first: a party that ends sends nothing. `last` is the last tick of a joining beat that goes out.
-    pub fn time(&mut self, clock: u32, patience: u32, limits: Limits, last: u32, place: usize)
-        ensures { self.new ≡ times clock patience limits.tmin last place self.old }
+    // The party's timer; answers what it tells, if anything. Patience comes first: a party that ends sends nothing.
+    // `last` is the last tick of a joining beat that goes out.
+    pub fn time(
+        &mut self,
+        clock: u32,
+        patience: u32,
+        limits: Limits,
+        last: u32,
+        place: usize,
+    ) -> Option<HappeningKind>
+        ensures answer { result ≡ timer_word self.old.own.standing clock patience limits.tmin self.old.own.since }
+        ensures after { self.new ≡ times clock patience limits.tmin last place self.old }
     {
         let silent = clock.saturating_sub(self.own.since);
         match self.own.standing {
             Standing::Live(stage) if silent >= patience => {
-                let how = match stage {
-                    Stage::Leaving => Ending::Left,
-                    Stage::Joining | Stage::In => Ending::Stopped,
+                let (how, word) = match stage {
+                    Stage::Leaving => (Ending::Left, HappeningKind::Left),
+                    Stage::Joining | Stage::In => (Ending::Stopped, HappeningKind::Stopped),
                 };
                 self.own.standing = Standing::Ended(how, clock, stage);
+                Some(word)
             }
             Standing::Live(Stage::Joining) if silent > 0 && silent % limits.tmin() == 0 => {
                 self.legs.entry = Some(Beat::new(last, false, place));
+                Some(HappeningKind::Sent)
             }
-            _ => {}
+            _ => None,
         }
     }
 

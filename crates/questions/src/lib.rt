@@ -7,4 +7,4 @@ mod tick;
 
 pub use self::calls::{ask_beat, ask_crash, ask_join, ask_leave};
 pub use self::log::is_own_log;
-pub use self::tick::ask_tick;
+pub use self::tick::{ask_quiet_tick, ask_tick};

@@ -4,7 +4,7 @@ ghost use Rattle.std.specs.List.{list_any};
 ghost use Rattle.slots.specs.Slots.{capacity};
 ghost use Rattle.protocol.specs.Answers.{told};
 ghost use Rattle.protocol.specs.Party.{due};
-ghost use Rattle.protocol.specs.Runs.{number};
+ghost use Rattle.protocol.specs.Runs.{number, log_asks};
 ghost use Rattle.protocol.specs.Views.{play, Ready};
 ghost use Rattle.protocol.specs.declared.call.Call.TheVariants.{Tick};
 
@@ -26,6 +26,18 @@ pub fn ask_tick(plan: &Plan, table: &Table, log: &SlotList<'_, Happening>) -> Re
     if is_any_due(plan, table) {
         return Err(Refusal::BeatDue);
     }
+    ask_quiet_tick(plan, table, log)
+}
+
+// Before a tick at which nothing is due: only the log may refuse that.
+pub fn ask_quiet_tick(
+    plan: &Plan,
+    table: &Table,
+    log: &SlotList<'_, Happening>,
+) -> Result<(), Refusal>
+    ensures number { told result ≡ log_asks (2 * plan.now.n) (capacity log.now) (play table.now log.now) }
+    ensures ready { OnOk result (Ready log.now table.now.clock (2 * plan.now.n)) }
+{
     ask_log(table, log, 2 * plan.parties() as usize)
 }
 

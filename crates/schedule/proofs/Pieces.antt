@@ -12,12 +12,6 @@ module _ (m : ℕ → Bool) where
   place_of_mark (b ∷ bs) =
       elim (m b) as (λ t. cond (not t) (1 + position_or_len m bs) 0 ≡ length (cond t [] (b ∷ until m bs))) [ true ↦ refl | false ↦ let e = place_of_mark bs in omega arith ]
 
-  pub until_le : (bs : List ℕ) → length (until m bs) ≤ length bs
-  until_le [] = omega arith
-  until_le (b ∷ bs) =
-      let le = until_le bs in
-      elim (m b) as (λ t. length (cond t [] (b ∷ until m bs)) ≤ length (b ∷ bs)) [ true ↦ omega arith | false ↦ omega arith ]
-
   -- what stands before the first mark, by its length
   pub before_mark : (bs : List ℕ) → take (length (until m bs)) bs ≡ until m bs
   before_mark [] = refl

@@ -1,12 +1,44 @@
-use Rattle.std.proofs.Common.{◌<◌, arith}
+use Rattle.std.proofs.Common.{◌≡◌, ◌<◌, Err, ap, ◌∙◌, arith}
 use Rattle.std.proofs.lemmas.Bool.Decides.{nat_tests}
+use Rattle.std.proofs.lemmas.Result.{err_from_is_err_and}
+use Rattle.protocol.specs.Answers.{told, refusal_number}
 use Rattle.protocol.specs.Views.{play}
+use Rattle.protocol.proofs.Making.{some_number}
+use Rattle.protocol.proofs.Quiet.{quiet_later}
+use Rattle.group.proofs.Quietly.{sane_later, refused_quietly, counted_quietly}
 use Rattle.group.proofs.Safe.{sane_at, sane_ticked}
 use Rattle.group.proofs.group.Group.tick.Goals as goal
 
-pub invariant_of-self-2 : goal.invariant_of-self-2
-invariant_of-self-2 g c =
+pub returns-in_err-ask_quiet_tick-clause-did : goal.returns-in_err-ask_quiet_tick-clause-did
+returns-in_err-ask_quiet_tick-clause-did g c =
+    let me = c.args.self.now in
+    let e = c.in_err-ask_quiet_tick.field-0.0 in
+    let k = some_number e in
+    let r = err_from_is_err_and c.from_residual.result c.from_residual.ensures.1 in
+    let told_is : told c.from_residual.result ≡ refusal_number e = ap told (r.1 ∙ ap Err r.2) in
+    refused_quietly (g.P.Pace.means me.pace) me.plan me.table c.args.log.now me.quiet_until c.if-self.true me.quiet
+    (told c.from_residual.result) k.0 (told_is ∙ c.in_err-ask_quiet_tick.ensures.number) (told_is ∙ k.1)
+
+pub invariant_of-self-then-self : goal.invariant_of-self-then-self
+invariant_of-self-then-self g c =
+    let me = c.args.self.now in
+    let m = g.P.Pace.means me.pace in
+    record {
+      sane = sane_later m me.plan me.table me.quiet_until c.if-self.true me.quiet me.sane;
+      quiet = quiet_later m me.plan me.table me.quiet_until c.if-self.true me.quiet;
+    }
+
+pub invariant_of-self-else-self : goal.invariant_of-self-else-self
+invariant_of-self-else-self g c =
     let me = c.args.self.now in
     let early : me.table.clock < 4000000000 = let asked = c.in_ok-ask_tick.ensures.number in grind (arith, nat_tests) in
     let after = sane_at c.do_tick.new.table c.do_tick.new.log _ c.do_tick.ensures.after in
-    record { sane = after (sane_ticked (g.P.Pace.means me.pace) (g.met.P.Pace.lawful me.pace) me.plan.n me.plan.kind (play me.table c.args.log.now) early me.sane) }
+    record {
+      sane = after (sane_ticked (g.P.Pace.means me.pace) (g.met.P.Pace.lawful me.pace) me.plan.n me.plan.kind (play me.table c.args.log.now) early me.sane);
+      quiet = c.next_due-self.ensures.until;
+    }
+
+pub returns-in_ok-ask_quiet_tick-clause-did : goal.returns-in_ok-ask_quiet_tick-clause-did
+returns-in_ok-ask_quiet_tick-clause-did g c =
+    let me = c.args.self.now in
+    counted_quietly (g.P.Pace.means me.pace) me.plan me.table c.args.log.now me.quiet_until c.if-self.true me.quiet c.in_ok-ask_quiet_tick.ensures.number
