@@ -7,7 +7,7 @@ Run from the repository's root once target/bin/runfile is built. bench/plain.rs 
 tick one by one and is not proved. The two programs must print the same bytes. Each is run many times in a row and the least time of ROUNDS such
 rows counts; the time of the same program on a file without orders is taken off, so that starting it doesn't count. The Python model passes over quiet
 ticks as tests/model.py does, and networkx writes a flat graph: it knows no nested ones. A dense run is over within a fraction of what starting a program
-takes, so for these the instructions are counted too (valgrind), which are the same in every run.
+takes, so for these the instructions are counted too (valgrind), which are the same in every run. The third table has those of the export, a byte of the file.
 """
 
 import io
