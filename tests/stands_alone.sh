@@ -1,13 +1,11 @@
 #!/usr/bin/env bash
-# The repository stands alone: no line refers to a paper outside it, by name, number or
+# The repository stands alone: no line refers to a text outside it, by name, number or
 # place, and no note to its authors is left open. Run from the root.
 set -u
 
 # Each pattern has a letter in brackets, so that it doesn't find itself.
-patterns='[Dd]ocument (0[0-9]|90)|[Dd]emand [0-9]|[Cc]hange request|[Ss]ource document'
-patterns+='|0[0]-demands|0[1]-scope|0[2]-change|9[0]-rattle|\b[Ii]ssue #?[0-9]'
-patterns+='|[s]hared/(papers|forms|design)|[Ss]cope paper|[Rr]equest paper|\b[P](1[0-2]|[1-9])\b'
-patterns+='|[T]ODO'
+patterns='[Dd]ocument [0-9]|[Dd]emand [0-9]|[Cc]hange request|[Ss]ource document|\b[Ii]ssue #?[0-9]'
+patterns+='|\b[0-9]{2,3}[-_][0-9a-z]+\.(md|txt)|[s]hared/|\b[P](1[0-2]|[1-9])\b|[T]ODO'
 
 list() {
     if git rev-parse --is-inside-work-tree >/dev/null 2>&1; then
@@ -23,4 +21,4 @@ if [ -n "$found" ]; then
     echo "$found"
     exit 1
 fi
-echo "no line refers to a paper outside the repository"
+echo "no line refers to a text outside the repository"
