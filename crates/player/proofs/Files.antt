@@ -28,7 +28,7 @@ use Rattle.graphml.proofs.Shown.{shows}
 use Rattle.player.specs.declared.fault.FileFault.{FileFault}
 use Rattle.player.specs.declared.program.Ran.{Ran}
 use Rattle.player.specs.Playing.{Stop, Playing, plays, RunOf}
-use Rattle.player.specs.Program.{cap_and_plan_no, run, KeepsTheRules as KeepsItsRun, Prints, Played, SetUp}
+use Rattle.player.specs.Program.{cap_and_plan_no, run, Prints, Played, SetUp}
 use Rattle.player.specs.Notices.{refused_line}
 use Rattle.player.specs.Told.{bytes_told, lines_told}
 use Rattle.player.specs.Faults.{file_number, TellsOfNoRecord}
@@ -77,24 +77,6 @@ module _ (m : Meaning) (sound : Lawful m) (plan : Plan) (orders : List Order) (h
   kept : KeepsTheRules m plan (length hs) taken.steps ran.play
   kept = keeps m plan (length hs) sound taken.steps ran.play taken.by_the_rules
 
-  abbrev kept_by_its_run : KeepsItsRun m plan (length hs) ran
-  kept_by_its_run =
-      record {
-        steps = taken.steps;
-        made = taken.made;
-        by_the_rules = taken.by_the_rules;
-        end_together =
-            record {
-              root_follows = kept.root_ends_within_D_of_a_party_on_the_roll;
-              parties_follow = kept.parties_on_the_roll_end_within_D_and_a_trip_of_the_root;
-              stops_for_cause = kept.party_that_was_in_stops_no_earlier_than_the_root;
-              none_stops_unharmed = kept.nobody_stops_unharmed;
-            };
-        beats_shown = record { logged = kept.beats_go_back_to_their_sendings; edges_are = kept.arrivals_are_the_deliveries };
-        settle_once = kept.no_sending_settles_twice;
-        log_in_order = kept.log_in_order;
-      }
-
   module _ (t t' : Table) (l l' : SlotList Happening) (stop : Stop) (new : t ≡ (opened m plan).table) (empty : items l ≡ []) (lent : spare l ≡ hs)
       (after : play t' l' ≡ (plays m plan (capacity l) 0 orders (play t l)).play) (stopped : stop ≡ (plays m plan (capacity l) 0 orders (play t l)).stop)
       (grew : Extends l l') where
@@ -129,10 +111,9 @@ module _ (m : Meaning) (sound : Lawful m) (plan : Plan) (orders : List Order) (h
         subst (λ x. ShowsTheRun m plan (length hs) taken.steps x out out' r) play_is
         (shows m plan (length hs) taken.steps (play t' l') out out' r p same here.arrivals_are_the_deliveries here.log_in_order answer written nested cut edged) in
         record {
-          keeps = kept_by_its_run;
+          made = taken;
           promise = kept;
           log = h ∙ log_is;
-          output = shown.bytes_as_defined;
           file = subst (ShowsTheRun m plan (length hs) taken.steps ran.play out out') shown.answer_as_defined shown;
           prints =
               subst (λ x. Prints x ran.stop bytes lines) shown.answer_as_defined

@@ -1,16 +1,12 @@
 -- What a whole file comes to: what is printed of it, and what the lent slots and bytes then hold.
-use Rattle.std.specs.Prelude.{◌≡◌, ℕ, zero, suc, cond, not, ◌&&◌, List, [], ◌++◌, map, length, drop, Ok, Err, Result, nat_le}
+use Rattle.std.specs.Prelude.{◌≡◌, ℕ, zero, suc, cond, not, ◌&&◌, List, [], ◌++◌, length, drop, Ok, Err, Result, nat_le}
 use Rattle.pace.specs.Meaning.{Meaning}
 use Rattle.pace.specs.Waits.{halving, phases, capped}
 use Rattle.pace.specs.Questions.{limits_no, count_no}
 use Rattle.protocol.specs.declared.happening.Happening.{Happening}
 use Rattle.protocol.specs.declared.plan.Plan.{Plan}
-use Rattle.protocol.specs.declared.call.Step.{Step}
 use Rattle.protocol.specs.Group.{opened}
-use Rattle.protocol.specs.Beats.{SendingsSettleOnce}
-use Rattle.protocol.specs.Order.{LogInOrder}
-use Rattle.protocol.specs.Rehearsals.{Rehearsed, call_of, EndTogether, BeatsShown}
-use Rattle.protocol.specs.Promise.{KeepsTheRules as KeepsThePromise}
+use Rattle.protocol.specs.Promise.{KeepsTheRules}
 use Rattle.orders.specs.declared.fault.ReadFault.{ReadFault}
 use Rattle.orders.specs.declared.order.Order.{Order}
 use Rattle.orders.specs.declared.start.PaceKind.{PaceKind}
@@ -20,9 +16,9 @@ use Rattle.orders.specs.Faults.{fault_number}
 use Rattle.orders.specs.Loading.{loaded}
 use Rattle.graphml.specs.declared.answer.Exported.{Exported}
 use Rattle.graphml.specs.declared.answer.Refusal.{Refusal}
-use Rattle.graphml.specs.Answer.{refusal_number, written, exported}
+use Rattle.graphml.specs.Answer.{refusal_number, exported}
 use Rattle.graphml.specs.Shown.{ShowsTheRun}
-use Rattle.player.specs.Playing.{Stop, Playing, plays}
+use Rattle.player.specs.Playing.{Stop, Playing, plays, RunOf}
 use Rattle.player.specs.Notices.{refused_line, cut_line, stop_line}
 
 -- the waits of each pace that a file may ask for
@@ -55,21 +51,6 @@ set_up_no s = or_else (limits_no s.tmin s.tmax) (cap_and_plan_no s)
 abbrev pub run : Meaning → Plan → ℕ → List Order → Playing
 run m plan room orders = plays m plan room 0 orders (opened m plan)
 
--- a run by the rules, from a new group on, and the laws of runs
-pub record KeepsTheRules (m : Meaning) (plan : Plan) (room : ℕ) (x : Playing) : Type 0 where
-  -- the calls that the orders ask for, up to the first refusal; each did and answered what the rules say
-  pub steps : List Step
-  pub made : map call_of steps ≡ x.calls
-  pub by_the_rules : Rehearsed m plan room (opened m plan) steps x.play
-  -- the root and the parties on the roll end together, and for cause
-  pub end_together : EndTogether m plan steps x.play
-  -- each arrival and each loss goes back to its sending, and the arrivals are the deliveries not refused
-  pub beats_shown : BeatsShown m plan room steps x.play
-  -- each sending arrives or is lost once at most
-  pub settle_once : SendingsSettleOnce plan x.play
-  -- the ticks of the log never fall, and none is later than the clock
-  pub log_in_order : LogInOrder plan x.play
-
 -- what is printed: so many bytes of the output, and then lines
 abbrev pub Prints : Result Exported Refusal → Stop → (bytes : ℕ) (lines : List ℕ) → Type 0
 Prints (Ok e) stop bytes lines = (bytes ≡ e.bytes) × (lines ≡ cut_line (not e.whole) ++ stop_line stop)
@@ -77,13 +58,14 @@ Prints (Err e) stop bytes lines = (bytes ≡ 0) × (lines ≡ refused_line 0 (re
 
 -- the log's slots, the output and what is printed, for a file that is played
 pub record Played (m : Meaning) (plan : Plan) (orders : List Order) (hs hs' : List Happening) (out out' : List ℕ) (bytes : ℕ) (lines : List ℕ) : Type 0 where
-  pub keeps : KeepsTheRules m plan (length hs) (run m plan (length hs) orders)
-  -- its steps keep the promise of a run from a new group on
-  pub promise : KeepsThePromise m plan (length hs) keeps.steps (run m plan (length hs) orders).play
+  -- the calls that the orders ask for, up to the first refusal, each with its answer
+  pub made : RunOf m plan (length hs) (run m plan (length hs) orders).calls (opened m plan) (run m plan (length hs) orders).play
+  -- they keep the promise of a run
+  pub promise : KeepsTheRules m plan (length hs) made.steps (run m plan (length hs) orders).play
+  -- the run's records, and behind them what the slots held
   pub log : hs' ≡ (run m plan (length hs) orders).play.log ++ drop (length (run m plan (length hs) orders).play.log) hs
-  pub output : out' ≡ written (run m plan (length hs) orders).play.log plan.n out
   -- the output holds the file of that run
-  pub file : ShowsTheRun m plan (length hs) keeps.steps (run m plan (length hs) orders).play out out' (exported (run m plan (length hs) orders).play.log plan.n (length out))
+  pub file : ShowsTheRun m plan (length hs) made.steps (run m plan (length hs) orders).play out out' (exported (run m plan (length hs) orders).play.log plan.n (length out))
   pub prints : Prints (exported (run m plan (length hs) orders).play.log plan.n (length out)) (run m plan (length hs) orders).stop bytes lines
 
 -- the same for a file that is not

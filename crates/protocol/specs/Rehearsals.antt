@@ -1,14 +1,12 @@
 -- A run as the steps that were taken, each a call with its answer.
-use Rattle.std.specs.Prelude.{◌≡◌, ℕ, List, [], ◌∷◌, map}
+use Rattle.std.specs.Prelude.{◌≡◌, ℕ, List, [], ◌∷◌}
 use Rattle.protocol.specs.declared.plan.Plan.{Plan}
 use Rattle.protocol.specs.declared.call.Call.{Call}
 use Rattle.protocol.specs.declared.call.Step.{Step}
 use Rattle.pace.specs.Meaning.{Meaning}
-use Rattle.protocol.specs.Group.{Play, opened}
-use Rattle.protocol.specs.Beats.{BeatsAreLogged, edges, deliveries}
+use Rattle.protocol.specs.Group.{Play}
 use Rattle.protocol.specs.Answers.{told}
 use Rattle.protocol.specs.Runs.{number, perform}
-use Rattle.protocol.specs.Laws.{EndTogetherForCause}
 
 -- the call of a step, and the number that its answer tells
 abbrev pub call_of : Step → Call
@@ -21,12 +19,3 @@ answer_of x = told x.answer
 abbrev pub Rehearsed : Meaning → Plan → ℕ → Play → List Step → Play → Type 0
 Rehearsed m plan room s [] s' = s' ≡ s
 Rehearsed m plan room s (x ∷ xs) s' = (told x.answer ≡ number plan room x.call s) × Rehearsed m plan room (perform m plan room x.call s) xs s'
-
--- the laws of the end, over the steps of a run
-abbrev pub EndTogether : Meaning → Plan → List Step → Play → Type 0
-EndTogether m plan steps s = EndTogetherForCause m plan (map call_of steps) (map answer_of steps) s
-
--- each beat on a leg, each arrival and each loss goes back to its sending, and the edges of the log are the deliveries that were not refused, in their order
-pub record BeatsShown (m : Meaning) (plan : Plan) (room : ℕ) (steps : List Step) (s : Play) : Type 0 where
-  pub logged : BeatsAreLogged plan s
-  pub edges_are : edges 0 s.log ≡ deliveries m plan room (map call_of steps) (opened m plan)
