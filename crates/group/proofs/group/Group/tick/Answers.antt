@@ -1,23 +1,19 @@
-use Rattle.std.proofs.Common.{◌≡◌, ◌<◌, Err, ap, ◌∙◌, arith}
+use Rattle.std.proofs.Common.{◌<◌, ◌∙◌, arith}
 use Rattle.std.proofs.lemmas.Bool.Decides.{nat_tests}
-use Rattle.std.proofs.lemmas.Result.{err_from_is_err_and}
-use Rattle.protocol.specs.Answers.{told, refusal_number}
+use Rattle.protocol.specs.Answers.{told}
 use Rattle.protocol.specs.Views.{play}
-use Rattle.protocol.proofs.Making.{some_number}
 use Rattle.protocol.proofs.Quiet.{quiet_later}
 use Rattle.group.proofs.Quietly.{sane_later, refused_quietly, counted_quietly}
 use Rattle.group.proofs.Safe.{sane_at, sane_ticked}
+use Rattle.group.proofs.Towards.{handed_on}
 use Rattle.group.proofs.group.Group.tick.Goals as goal
 
 pub returns-in_err-ask_quiet_tick-clause-did : goal.returns-in_err-ask_quiet_tick-clause-did
 returns-in_err-ask_quiet_tick-clause-did g c =
     let me = c.args.self.now in
-    let e = c.in_err-ask_quiet_tick.field-0.0 in
-    let k = some_number e in
-    let r = err_from_is_err_and c.from_residual.result c.from_residual.ensures.1 in
-    let told_is : told c.from_residual.result ≡ refusal_number e = ap told (r.1 ∙ ap Err r.2) in
+    let handed = handed_on c.from_residual.result c.in_err-ask_quiet_tick.field-0.0 c.from_residual.ensures.1 in
     refused_quietly (g.P.Pace.means me.pace) me.plan me.table c.args.log.now me.quiet_until c.if-self.true me.quiet
-    (told c.from_residual.result) k.0 (told_is ∙ c.in_err-ask_quiet_tick.ensures.number) (told_is ∙ k.1)
+    (told c.from_residual.result) handed.1 (handed.0 ∙ c.in_err-ask_quiet_tick.ensures.number) handed.2
 
 pub invariant_of-self-then-self : goal.invariant_of-self-then-self
 invariant_of-self-then-self g c =
