@@ -26,6 +26,9 @@ fn append_two(rt: &impl Abort, slots: &mut [Mark]) {
     assert_eq!(rt; log.first_at_or_after(8), None);
     assert_eq!(rt; log.len(), 2);
     assert_eq!(rt; log.free(), 1);
+    let (lent, records) = log.into_slots();
+    assert_eq!(rt; lent.len(), 3);
+    assert_eq!(rt; records, 2);
 }
 
 #[test]
