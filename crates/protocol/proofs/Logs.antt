@@ -23,7 +23,7 @@ use Rattle.pace.specs.Meaning.{Meaning}
 use Rattle.protocol.specs.Patience.{trip, patience}
 use Rattle.protocol.specs.Walk.{folds, walks}
 use Rattle.protocol.specs.Party.{nobody, fresh, on_leg, off_leg, off_out, off_reply, off_entry, arrives, hears_as, heeds, joined, missed, sends, sends_as, on_roll, missed_all, times, times_as, times_live, calls_in, live}
-use Rattle.protocol.specs.Group.{Play, the, happens, tells_of, links, sender, answer_log, runs, delivered_as, lost_as, crashed, joins, leaves, any, shortest, counted, send_log, sent, stopped, started, settled_as, rounded_as, rounded, round_ends, live_log, timer_log, timed, later, opened}
+use Rattle.protocol.specs.Group.{Play, the, happens, tells_of, links, sender, answer_log, runs, delivered_as, lost_as, crashed, joins, leaves, any, shortest, counted, send_log, sent, stopped, started, settled_as, rounded_as, rounded, round_ends, live_word, tells_if, timer_log, timed, later, opened}
 use Rattle.protocol.specs.Runs.{number, done, unless, perform, played}
 use Rattle.protocol.specs.Beats.{is_arrival, is_loss, settles, nothing, happening_at, SentBy, OtherEnd, Linked, LossesLinked, SettledOnce, Unsettled, Edge, edges, beat_edge, delivery, deliveries, PutBy}
 use Rattle.protocol.specs.Order.{InOrder}
@@ -240,12 +240,12 @@ module _ (c : ℕ) where
   answer_onward On false i log = stay c log
   answer_onward Off false i log = told c log _ refl refl
 
-  silent_onward : (g : Stage) (i : ℕ) (log : List Happening) → Onward c log (live_log true false g c i log)
+  silent_onward : (g : Stage) (i : ℕ) (log : List Happening) → Onward c log (tells_if (live_word true false g) c i log)
   silent_onward Joining i log = told c log _ refl refl
   silent_onward In i log = told c log _ refl refl
   silent_onward Leaving i log = told c log _ refl refl
 
-  live_onward : (ends calls : Bool) (g : Stage) (i : ℕ) (log : List Happening) → Onward c log (live_log ends calls g c i log)
+  live_onward : (ends calls : Bool) (g : Stage) (i : ℕ) (log : List Happening) → Onward c log (tells_if (live_word ends calls g) c i log)
   live_onward true calls g i log = silent_onward g i log
   live_onward false true g i log = told c log _ refl refl
   live_onward false false g i log = stay c log
@@ -264,7 +264,7 @@ module _ (c : ℕ) where
   sends_turn Struck last j p log = stays j _ _ 1 p
 
   live_turn : (ends calls : Bool) (g : Stage) (last i : ℕ) (p : Party) (log : List Happening) →
-      Turned 3 i (length log) (live_log ends calls g c i log) p (times_live ends calls g c last (length log) p)
+      Turned 3 i (length log) (tells_if (live_word ends calls g) c i log) p (times_live ends calls g c last (length log) p)
   live_turn true calls g last i p log = stays i _ _ 3 p
   live_turn false true g last i p log = put_entry i _ _ p _ (omega arith) (sent_push log c i _)
   live_turn false false g last i p log = stays i _ _ 3 p

@@ -11,7 +11,7 @@ use Rattle.protocol.specs.declared.plan.Plan.{Plan}
 use Rattle.protocol.specs.declared.call.Call.TheVariants.{Tick}
 use Rattle.protocol.specs.Patience.{trip, patience}
 use Rattle.protocol.specs.Party.{nobody, due, calls_in, times, times_as, times_live}
-use Rattle.protocol.specs.Group.{Play, any, amid, timer_log, live_log, timed, rounded, rounded_as, later, ticked}
+use Rattle.protocol.specs.Group.{Play, any, amid, timer_log, live_word, tells_if, timed, rounded, rounded_as, later, ticked}
 use Rattle.protocol.specs.Runs.{asks, log_asks, is_own_log, number, perform, unless}
 use Rattle.protocol.specs.Making.{makes, Same}
 use Rattle.protocol.specs.Quiet.{clocked, at_clock, timer_rests, Rests, Quiet, QuietUntil}
@@ -26,7 +26,7 @@ timer_still (Live g) clock d tmin last place i p log e =
     let silent = clock - p.own.since in
     let lasts : leb d silent ≡ false = grind (arith, nat_tests) in
     let rests : calls_in g tmin silent ≡ false = grind (arith, nat_tests) in
-    (ap₂ (λ a b. times_live a b g clock last place p) lasts rests, ap₂ (λ a b. live_log a b g clock i log) lasts rests)
+    (ap₂ (λ a b. times_live a b g clock last place p) lasts rests, ap₂ (λ a b. tells_if (live_word a b g) clock i log) lasts rests)
 timer_still (Ended how at g) clock d tmin last place i p log e = (refl, refl)
 
 -- the questions on the log, each answered yes

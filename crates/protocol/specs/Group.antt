@@ -211,27 +211,24 @@ ended_word Stopped = HasStopped
 ended_word Left = HasLeft
 
 -- a live party tells that it ends, or that it calls again
-abbrev pub live_log : Bool → Bool → Stage → ℕ → ℕ → List Happening → List Happening
-live_log true calls g clock i log = tells_of clock i (ended_word (silent_end g)) log
-live_log false true g clock i log = tells_of clock i Sent log
-live_log false false g clock i log = log
-
--- only a live party has a timer
-abbrev pub timer_log : Standing → ℕ → ℕ → ℕ → ℕ → ℕ → List Happening → List Happening
-timer_log Outside clock patience tmin since i log = log
-timer_log (Live g) clock patience tmin since i log = live_log (nat_le patience (clock - since)) (calls_in g tmin (clock - since)) g clock i log
-timer_log (Ended how at g) clock patience tmin since i log = log
-
--- the word of that record, if there is one
 abbrev pub live_word : Bool → Bool → Stage → Option HappeningKind
 live_word true calls g = Some (ended_word (silent_end g))
 live_word false true g = Some Sent
 live_word false false g = None
 
+-- only a live party has a timer
 abbrev pub timer_word : Standing → ℕ → ℕ → ℕ → ℕ → Option HappeningKind
 timer_word Outside clock patience tmin since = None
 timer_word (Live g) clock patience tmin since = live_word (nat_le patience (clock - since)) (calls_in g tmin (clock - since)) g
 timer_word (Ended how at g) clock patience tmin since = None
+
+-- one record more with that word, if there is one
+abbrev pub tells_if : Option HappeningKind → ℕ → ℕ → List Happening → List Happening
+tells_if None clock i log = log
+tells_if (Some w) clock i log = tells_of clock i w log
+
+abbrev pub timer_log : Standing → ℕ → ℕ → ℕ → ℕ → ℕ → List Happening → List Happening
+timer_log st clock patience tmin since i log = tells_if (timer_word st clock patience tmin since) clock i log
 
 -- each party's timer, rising
 abbrev pub timed : ℕ → ℕ → ℕ → ℕ → Play → Play
