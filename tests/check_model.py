@@ -145,6 +145,62 @@ def test_promises_on_drawn_runs():
         check_promises(run.group, undisturbed)
 
 
+class Watch:
+    """Stands on a group's calls: who put each beat on a leg, and what each granted delivery was of."""
+
+    def __init__(self, group):
+        self.group, self.deliveries, self.struck = group, [], set()
+        self.sent_by = {}       # (party, leg) -> the beat on it, and the places of the log that the call wrote
+        for name in ("tick", "deliver", "lose", "crash", "join", "leave"):
+            setattr(group, name, lambda *words, name=name, call=getattr(group, name): self.make(name, call, *words))
+
+    def make(self, name, call, *words):
+        group = self.group
+        clock, places = group.clock, len(group.log)
+        stood = {(i, leg): beat for i, party in group.parties.items() for leg, beat in party.legs.items()}
+        call(*words)
+        if name == "deliver":
+            self.deliveries.append((clock, words, stood[words], self.sent_by[words], places))
+        for i, party in group.parties.items():
+            for leg, beat in party.legs.items():
+                if beat is not stood[i, leg] and beat is not None:
+                    assert stood[i, leg] is None or (i, leg) == words
+                    self.sent_by[i, leg] = beat, range(places, len(group.log))
+        self.struck |= {i for i, party in group.parties.items() if party.roll == "struck"}
+        for i in self.struck:
+            party = group.parties[i]
+            assert party.roll == "struck", "a struck party is struck no more"
+            assert party.legs[1] is None and party.legs[2] is None, "a beat is sent to a struck party"
+
+
+def check_deliveries(watch):
+    log = watch.group.log
+    edges = [(h.link, place) for place, h in enumerate(log) if h.word == "arrived"]
+    assert len(edges) == len(watch.deliveries), "not as many edges as granted deliveries"
+    for (source, target), (clock, (i, leg), beat, (put, places), before) in zip(edges, watch.deliveries):
+        assert 1 <= i <= watch.group.n and 1 <= leg <= 3
+        assert target == before, "the arrival is not the first record of its call"
+        assert (log[target].tick, log[target].owner) == (clock, i if leg == 1 else 0)
+        assert (log[source].word, log[source].owner) == ("sent", 0 if leg == 1 else i)
+        assert beat is put and beat.sent_at == source and source in places, "another beat was delivered"
+    assert all(0 <= h.owner <= watch.group.n for h in log)
+    for i in range(watch.group.n + 1):
+        words = [h.word for h in log if h.owner == i]
+        assert words.count("struck") == (i in watch.struck)
+
+
+def test_deliveries_and_struck_parties_of_drawn_runs():
+    rng = random.Random(5)
+    deliveries = struck = 0
+    for _ in range(400):
+        start, orders = model.read(schedules.draw_run(rng).data)
+        watch = Watch(model.open_group(start))
+        model.play(watch.group, orders)
+        check_deliveries(watch)
+        deliveries, struck = deliveries + len(watch.deliveries), struck + len(watch.struck)
+    assert deliveries > 10_000 and struck > 50, (deliveries, struck)
+
+
 def test_passing_over_quiet_ticks_changes_nothing():
     rng = random.Random(3)
     for _ in range(200):

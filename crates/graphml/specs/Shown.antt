@@ -1,11 +1,10 @@
 -- What the file of a run shows of it.
-use Rattle.std.specs.Prelude.{◌≡◌, ℕ, ◌-◌, true, false, List, map, length, take, IfOk, Result}
+use Rattle.std.specs.Prelude.{◌≡◌, ℕ, ◌-◌, true, false, List, length, take, IfOk, Result}
 use Rattle.pace.specs.Meaning.{Meaning}
 use Rattle.protocol.specs.declared.plan.Plan.{Plan}
 use Rattle.protocol.specs.declared.call.Step.{Step}
-use Rattle.protocol.specs.Group.{Play, opened}
-use Rattle.protocol.specs.Beats.{deliveries}
-use Rattle.protocol.specs.Rehearsals.{call_of}
+use Rattle.protocol.specs.Group.{Play}
+use Rattle.protocol.specs.Beats.{edges}
 use Rattle.graphml.specs.declared.answer.Exported.{Exported}
 use Rattle.graphml.specs.declared.answer.Refusal.{Refusal}
 use Rattle.graphml.specs.Cut.{tags, EndsAt}
@@ -23,6 +22,6 @@ pub record ShowsTheRun (m : Meaning) (plan : Plan) (room : ℕ) (steps : List St
   pub closed_inner_before_outer : IfOk answer (λ x. WellNested (take x.bytes out'))
   -- a cut file has the first elements of all, and the next did not fit
   pub cut_at_the_first_that_does_not_fit : IfOk answer (λ x. x.whole ≡ false → EndsAt (length out - 275) (body s.log plan.n))
-  -- a whole file has one edge for each delivery not refused, in their order, and no other
-  pub edges_are_the_deliveries :
-      IfOk answer (λ x. x.whole ≡ true → edges_among (tags (part s.log plan.n (length out))) ≡ deliveries m plan room (map call_of steps) (opened m plan))
+  -- a whole file has the edges of the log, in their order, and no other
+  pub edges_are_those_of_the_log :
+      IfOk answer (λ x. x.whole ≡ true → edges_among (tags (part s.log plan.n (length out))) ≡ edges 0 s.log)

@@ -109,7 +109,7 @@ module _ (m : Meaning) (sound : Lawful m) (plan : Plan) (orders : List Order) (h
         let here = subst (KeepsTheRules m plan (length hs) taken.steps) (sym play_is) kept in
         let shown =
         subst (λ x. ShowsTheRun m plan (length hs) taken.steps x out out' r) play_is
-        (shows m plan (length hs) taken.steps (play t' l') out out' r p same here.arrivals_are_the_deliveries here.log_in_order answer written nested cut edged) in
+        (shows m plan (length hs) taken.steps (play t' l') out out' r p same here.log_in_order answer written nested cut edged) in
         record {
           made = taken;
           promise = kept;

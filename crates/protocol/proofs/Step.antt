@@ -8,7 +8,7 @@ use Rattle.protocol.specs.declared.party.Stage.{Stage}
 use Rattle.protocol.specs.declared.party.Stage.TheVariants.{Joining, In, Leaving}
 use Rattle.protocol.specs.declared.party.Standing.{Standing}
 use Rattle.protocol.specs.declared.party.Standing.TheVariants.{Outside, Live, Ended}
-use Rattle.protocol.specs.declared.party.Roll.TheVariants.{On}
+use Rattle.protocol.specs.declared.party.Roll.TheVariants.{On, Struck}
 use Rattle.protocol.specs.declared.table.Root.{Root}
 use Rattle.protocol.specs.declared.table.Root.TheVariants.{Running, Down}
 use Rattle.protocol.specs.declared.table.RootEnding.{RootEnding}
@@ -69,6 +69,9 @@ module _ (m : Terms) (kind : GroupKind) (law : LawfulTerms m kind) (q : Bool) (c
       go : (o : Option Beat) → p.legs.entry ≡ o → o ≡ None
       go None f = refl
       go (Some b) f = let g = no_gap c p.own.since b.last m.tmin k.past whole in absurd (grind (arith, nat_tests))
+
+  pub no_beat_to_struck : p.note.roll ≡ Struck → p.legs.out ≡ None
+  no_beat_to_struck e = gone _ (grind (arith, nat_tests))
 
   pub drop_out : Survives (off_out p)
   drop_out = grind (arith, nat_tests)

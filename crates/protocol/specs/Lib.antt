@@ -13,6 +13,8 @@ pub mod Laws
 pub mod Beats
 pub mod Order
 pub mod Rehearsals
+pub mod Deliveries
+pub mod Strikes
 pub mod Kept
 pub mod Cases
 pub mod Views

@@ -14,9 +14,14 @@ pub record InOrder (clock : ℕ) (log : List Happening) : Type 0 where
   pub rises : IsNonDecreasingBy tick_of log
   pub none_later : (k : ℕ) → k < length log → (happening_at log k).tick ≤ clock
 
--- the log is in order, the group has counted its records, and so no call is refused because the log is another's
+-- the owner of each record is at most n
+abbrev pub OwnedUpTo : ℕ → List Happening → Type 0
+OwnedUpTo n log = (k : ℕ) → k < length log → (happening_at log k).owner ≤ n
+
+-- the log is in order, each record is of the root or a party of the plan, the group has counted them, and so no call is refused because the log is another's
 pub record LogInOrder (plan : Plan) (s : Play) : Type 0 where
   pub in_order : InOrder s.table.clock s.log
+  pub owned : OwnedUpTo plan.n s.log
   pub counted : s.table.logged ≡ length s.log
   pub never_another : (room : ℕ) (call : Call) → number plan room call s ≢ 13
 

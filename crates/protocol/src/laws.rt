@@ -1,8 +1,10 @@
 // The laws of whole runs: each function's contract names one, for every lawful pace, every plan, every number of slots and every list of calls.
-ghost use Rattle.protocol.specs.Beats.{RunsShowTheirBeats, RunsSettleEachSendingOnce, RunsPutEachBeatWithItsSending, BeatsTakeFreeLegs};
+ghost use Rattle.protocol.specs.Beats.{RunsSettleEachSendingOnce, RunsPutEachBeatWithItsSending, BeatsTakeFreeLegs};
 ghost use Rattle.protocol.specs.Cases.{WorkedRunsStand};
+ghost use Rattle.protocol.specs.Deliveries.{RunsShowTheirBeats};
 ghost use Rattle.protocol.specs.Laws.{RunsEndTogetherForCause};
 ghost use Rattle.protocol.specs.Order.{RunsKeepTheirLogInOrder};
+ghost use Rattle.protocol.specs.Strikes.{RunsStrikeForGood};
 
 // Every run of every group ends together and for cause.
 pub fn runs_end_together_for_cause()
@@ -14,7 +16,7 @@ pub fn runs_keep_their_log_in_order()
     ensures { RunsKeepTheirLogInOrder }
 {}
 
-// Every run shows its beats in its log.
+// Every run shows its beats in its log, and its granted deliveries by the log's edges.
 pub fn runs_show_their_beats()
     ensures { RunsShowTheirBeats }
 {}
@@ -32,6 +34,11 @@ pub fn runs_put_each_beat_with_its_sending()
 // No call of a run puts a beat on a leg that holds one.
 pub fn beats_take_free_legs()
     ensures { BeatsTakeFreeLegs }
+{}
+
+// Every run strikes its parties for good.
+pub fn runs_strike_for_good()
+    ensures { RunsStrikeForGood }
 {}
 
 // Runs played by hand: one fact about one table.
