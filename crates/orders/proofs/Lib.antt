@@ -1,3 +1,4 @@
 mod Rereading
+mod OnlyWritten
 mod Records
 pub mod Loads
