@@ -2,3 +2,4 @@ mod Rereading
 mod OnlyWritten
 mod Records
 pub mod Loads
+mod Example

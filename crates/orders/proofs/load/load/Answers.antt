@@ -12,6 +12,7 @@ use Rattle.orders.specs.declared.start.Start.{Start}
 use Rattle.orders.specs.Loading.{loaded, started}
 use Rattle.orders.specs.Reading.{fault, start_at, after_order}
 use Rattle.orders.proofs.Loads.{Left, left_end, left_fault, left_refused, left_more, written_files}
+use Rattle.orders.proofs.Example.{examples_load}
 use Rattle.orders.proofs.OnlyWritten.{only_written}
 use Rattle.orders.proofs.load.load.Goals as goal
 
@@ -45,6 +46,7 @@ returns-in_err-start c =
       rises = λ h. h;
       reads_back = written_files;
       only_written = only_written;
+      examples = examples_load;
     }
 
 pub loop-order-init : goal.loop-order-init
@@ -78,6 +80,7 @@ returns-in_err-order c =
       rises = l.invariant.2;
       reads_back = written_files;
       only_written = only_written;
+      examples = examples_load;
     }
 
 pub returns-in_default : goal.returns-in_default
@@ -94,6 +97,7 @@ returns-in_default c =
       rises = l.invariant.2;
       reads_back = written_files;
       only_written = only_written;
+      examples = examples_load;
     }
 
 pub returns-in_err-map_err : goal.returns-in_err-map_err
@@ -116,6 +120,7 @@ returns-in_err-map_err c =
       rises = λ r. h.rises (l.invariant.2 r);
       reads_back = written_files;
       only_written = only_written;
+      examples = examples_load;
     }
 
 pub loop-order-preserved : goal.loop-order-preserved
