@@ -14,6 +14,5 @@ pub mod Beats
 pub mod Order
 pub mod Rehearsals
 pub mod Kept
-pub mod Cases
 pub mod Views
 pub mod Promise

@@ -1,6 +1,5 @@
 // The laws of whole runs: each function's contract names one, for every lawful pace, every plan, every number of slots and every list of calls.
 ghost use Rattle.protocol.specs.Beats.{RunsShowTheirBeats, RunsSettleEachSendingOnce, RunsPutEachBeatWithItsSending, BeatsTakeFreeLegs};
-ghost use Rattle.protocol.specs.Cases.{WorkedRunsStand};
 ghost use Rattle.protocol.specs.Laws.{RunsEndTogetherForCause};
 ghost use Rattle.protocol.specs.Order.{RunsKeepTheirLogInOrder};
 
@@ -32,9 +31,4 @@ pub fn runs_put_each_beat_with_its_sending()
 // No call of a run puts a beat on a leg that holds one.
 pub fn beats_take_free_legs()
     ensures { BeatsTakeFreeLegs }
-{}
-
-// Runs played by hand: one fact about one table.
-pub fn worked_runs_stand()
-    ensures { WorkedRunsStand }
 {}
