@@ -7,6 +7,5 @@ pub mod Edges
 pub mod Nested
 pub mod Answer
 pub mod State
-pub mod Example
 pub mod Export
 pub mod Shown

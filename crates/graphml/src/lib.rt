@@ -3,7 +3,6 @@
 
 pub mod answer;
 mod element;
-pub mod example;
 pub mod export;
 mod graph;
 mod lines;

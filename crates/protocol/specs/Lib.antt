@@ -16,6 +16,5 @@ pub mod Rehearsals
 pub mod Deliveries
 pub mod Strikes
 pub mod Kept
-pub mod Cases
 pub mod Views
 pub mod Promise

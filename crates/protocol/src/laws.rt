@@ -1,6 +1,5 @@
 // The laws of whole runs: each function's contract names one, for every lawful pace, every plan, every number of slots and every list of calls.
 ghost use Rattle.protocol.specs.Beats.{RunsSettleEachSendingOnce, RunsPutEachBeatWithItsSending, BeatsTakeFreeLegs};
-ghost use Rattle.protocol.specs.Cases.{WorkedRunsStand};
 ghost use Rattle.protocol.specs.Deliveries.{RunsShowTheirBeats};
 ghost use Rattle.protocol.specs.Laws.{RunsEndTogetherForCause};
 ghost use Rattle.protocol.specs.Order.{RunsKeepTheirLogInOrder};
@@ -39,9 +38,4 @@ pub fn beats_take_free_legs()
 // Every run strikes its parties for good.
 pub fn runs_strike_for_good()
     ensures { RunsStrikeForGood }
-{}
-
-// Runs played by hand: one fact about one table.
-pub fn worked_runs_stand()
-    ensures { WorkedRunsStand }
 {}
