@@ -11,7 +11,7 @@ import sys
 import check_graphml
 import model
 import schedules
-from model import CLOSED, CRASH, DELIVER, EXPANDING, HALVING, JOIN, LOSE
+from model import CLOSED, CRASH, DELIVER, DYNAMIC, EXPANDING, HALVING, JOIN, LOSE
 from schedules import Script
 
 
@@ -76,6 +76,24 @@ def test_joiner_that_nobody_hears_stops_at_12():
     run.until(20, kind=LOSE)
     assert happenings(run.group, "sent") == [(t, 1) for t in (0, 2, 4, 6, 8, 10)]
     assert happenings(run.group, "stopped") == [(12, 1)]
+
+
+def test_late_joining_beat_enrols_no_struck_party():
+    group = model.Group(DYNAMIC, 1, 2, 2, [2])
+    group.tick()
+    group.join(1)
+    group.deliver(1, 3)
+    while group.clock < 4:
+        group.tick()
+    group.deliver(1, 1)
+    group.deliver(1, 2)
+    group.leave(1)
+    group.tick()
+    group.deliver(1, 1)
+    group.deliver(1, 2)
+    assert happenings(group, "struck") == [(5, 1)]
+    group.deliver(1, 3)
+    assert (group.log[-1].word, group.parties[1].roll) == ("arrived", "struck")
 
 
 def test_rounds_last_tmax_while_nobody_is_on_the_roll():
