@@ -6,13 +6,13 @@ use Rattle.protocol.specs.declared.party.Party.{Party}
 use Rattle.protocol.specs.declared.party.Beat.{Beat}
 use Rattle.protocol.specs.declared.party.Stage.{Stage}
 use Rattle.protocol.specs.declared.party.Stage.TheVariants.{Joining, In, Leaving}
-use Rattle.protocol.specs.declared.party.Ending.{Ending}
-use Rattle.protocol.specs.declared.party.Ending.TheVariants.{Crashed, Stopped}
 use Rattle.protocol.specs.declared.party.Standing.{Standing}
 use Rattle.protocol.specs.declared.party.Standing.TheVariants.{Outside, Live, Ended}
 use Rattle.protocol.specs.declared.party.Roll.TheVariants.{On, Struck}
 use Rattle.protocol.specs.declared.table.Root.{Root}
 use Rattle.protocol.specs.declared.table.Root.TheVariants.{Running, Down}
+use Rattle.protocol.specs.declared.table.RootEnding.{RootEnding}
+use Rattle.protocol.specs.declared.table.RootEnding.TheVariants.{Crashed as RootCrashed, Stopped as RootStopped}
 use Rattle.protocol.specs.declared.kind.GroupKind.{GroupKind}
 use Rattle.protocol.specs.declared.kind.GroupKind.TheVariants.{Closed, Expanding, Dynamic}
 use Rattle.protocol.specs.Party.{hears_as, arrives, heeds, on_leg, off_leg, off_out, off_reply, off_entry, answers, crashes, joined, now_leaving, missed, sends, missed_all, due, times, times_as, times_live, calls_in, live, fresh}
@@ -82,10 +82,10 @@ module _ (m : Terms) (kind : GroupKind) (law : LawfulTerms m kind) (q : Bool) (c
   pub drop_entry : Survives (off_entry p)
   drop_entry = grind (arith, nat_tests)
 
-  pub ignore_reply : (how : Ending) (e : ℕ) → r ≡ Down how e → Keeps (off_reply p)
+  pub ignore_reply : (how : RootEnding) (e : ℕ) → r ≡ Down how e → Keeps (off_reply p)
   ignore_reply how e down = grind (arith, nat_tests)
 
-  pub ignore_entry : (how : Ending) (e : ℕ) → r ≡ Down how e → Keeps (off_entry p)
+  pub ignore_entry : (how : RootEnding) (e : ℕ) → r ≡ Down how e → Keeps (off_entry p)
   ignore_entry how e down = grind (arith, nat_tests)
 
   arrive_as :
@@ -113,7 +113,7 @@ module _ (m : Terms) (kind : GroupKind) (law : LawfulTerms m kind) (q : Bool) (c
   pub elsewhere : Survives p
   elsewhere = grind (arith, nat_tests)
 
-  pub root_crashes : r ≡ Running → Kept m kind false c (Down Crashed c) a l p
+  pub root_crashes : r ≡ Running → Kept m kind false c (Down RootCrashed c) a l p
   root_crashes up = grind (arith, nat_tests)
 
   pub crash : Survives (crashes c p)
@@ -125,7 +125,7 @@ module _ (m : Terms) (kind : GroupKind) (law : LawfulTerms m kind) (q : Bool) (c
   pub leave : (kind ≡ Closed → ⊥) → p.own.standing ≡ Live In → Keeps (now_leaving p)
   leave wide e = grind (arith, nat_tests)
 
-  pub root_stops : r ≡ Running → q ≡ false → Kept m kind q c (Down Stopped c) a l (missed p)
+  pub root_stops : r ≡ Running → q ≡ false → Kept m kind q c (Down RootStopped c) a l (missed p)
   root_stops up bad = grind (arith, nat_tests)
 
   pub next_round :

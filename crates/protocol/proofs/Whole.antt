@@ -5,13 +5,13 @@ use Rattle.std.proofs.lemmas.Bool.Decides.{nat_tests}
 use Rattle.std.proofs.lemmas.Option.{slice_get-get_or}
 use Rattle.protocol.specs.declared.party.Party.{Party}
 use Rattle.protocol.specs.declared.party.Beat.{Beat}
-use Rattle.protocol.specs.declared.party.Ending.TheVariants.{Stopped}
 use Rattle.protocol.specs.declared.party.Stage.TheVariants.{In}
 use Rattle.protocol.specs.declared.party.Standing.{Standing}
 use Rattle.protocol.specs.declared.party.Standing.TheVariants.{Outside, Live}
 use Rattle.protocol.specs.declared.party.Roll.TheVariants.{On, Struck}
 use Rattle.protocol.specs.declared.table.Root.{Root}
 use Rattle.protocol.specs.declared.table.Root.TheVariants.{Running, Down}
+use Rattle.protocol.specs.declared.table.RootEnding.TheVariants.{Stopped as RootStopped}
 use Rattle.protocol.specs.declared.kind.GroupKind.{GroupKind}
 use Rattle.protocol.specs.declared.kind.GroupKind.TheVariants.{Closed}
 use Rattle.protocol.specs.declared.happening.Happening.{Happening}
@@ -153,7 +153,7 @@ module _ (μ : Meaning) (sound : Lawful μ) (kind : GroupKind) (n : ℕ) where
     stops bad = record {
       whole = record {
         scene = let x = w.scene in grind arith;
-        each = λ k h. subst (λ p. Kept M kind q s.table.clock (Down Stopped s.table.clock) s.table.start s.table.length p)
+        each = λ k h. subst (λ p. Kept M kind q s.table.clock (Down RootStopped s.table.clock) s.table.start s.table.length p)
             (sym (counted_at s k h w.long)) (step.root_stops M kind law q _ _ _ _ w.scene _ (w.each k h) up bad);
         long = ps_long;
       };

@@ -7,6 +7,7 @@ use Rattle.protocol.specs.declared.party.Standing.{Standing}
 use Rattle.protocol.specs.declared.party.Standing.TheVariants.{Ended, Live}
 use Rattle.protocol.specs.declared.table.Root.{Root}
 use Rattle.protocol.specs.declared.table.Root.TheVariants.{Running, Down}
+use Rattle.protocol.specs.declared.table.RootEnding.TheVariants.{Crashed as RootCrashed, Stopped as RootStopped}
 use Rattle.protocol.specs.declared.kind.GroupKind.{GroupKind}
 use Rattle.protocol.specs.declared.kind.GroupKind.TheVariants.{Closed, Expanding}
 use Rattle.protocol.specs.declared.happening.Happening.{Happening}
@@ -100,9 +101,9 @@ ends answers root party sent_at records = record { answers = answers; root = roo
 abbrev pub table : List Case
 table =
     -- the root stops at 28, one patience after the party's crash
-    row Closed 1 10 party_crashes (ends (granted party_crashes) (Down Stopped 28) (Ended Crashed 0 In) (10 ∷ 20 ∷ 25 ∷ 27 ∷ []) 10)
+    row Closed 1 10 party_crashes (ends (granted party_crashes) (Down RootStopped 28) (Ended Crashed 0 In) (10 ∷ 20 ∷ 25 ∷ 27 ∷ []) 10)
     -- the party stops at 28, one patience after the root's crash
-    ∷ row Closed 1 10 root_crashes (ends (granted root_crashes) (Down Crashed 0) (Ended Stopped 28 In) [] 2)
+    ∷ row Closed 1 10 root_crashes (ends (granted root_crashes) (Down RootCrashed 0) (Ended Stopped 28 In) [] 2)
     -- a beat is sent at 1; the tick at 2 is refused by 11 until beat and reply have come, and nobody stops
     ∷ row Closed 1 1 tick_waits (ends (0 ∷ 0 ∷ 11 ∷ 0 ∷ 11 ∷ 0 ∷ 0 ∷ []) Running (Live In) (1 ∷ 2 ∷ 2 ∷ []) 5)
     -- six joining beats are sent, and the party stops at 12

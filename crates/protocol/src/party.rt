@@ -20,7 +20,7 @@ impl fmt::Display for Stage {
     }
 }
 
-// How a party or the root has ended; only a leaving party ends as left.
+// How a party has ended; only a leaving one ends as left.
 #[derive(Clone, Copy, Debug, PartialEq, Eq)]
 pub enum Ending {
     Crashed,

@@ -1,14 +1,32 @@
 // All that a group changes.
 ghost use Rattle.std.specs.Prelude.{◌≡◌, take};
 
-use crate::party::{Ending, Party};
+use std::fmt;
+
+use crate::party::Party;
 use crate::plan::Plan;
+
+// How the root has ended; it never leaves.
+#[derive(Clone, Copy, Debug, PartialEq, Eq)]
+pub enum RootEnding {
+    Crashed,
+    Stopped,
+}
+
+impl fmt::Display for RootEnding {
+    fn fmt<W: fmt::Write>(&self, f: &mut fmt::Formatter<W>) -> fmt::Result {
+        f.write_str(match self {
+            RootEnding::Crashed => "crashed",
+            RootEnding::Stopped => "stopped",
+        })
+    }
+}
 
 // The root runs, or it is down: how it ended, and the clock at its end.
 #[derive(Clone, Copy, Debug, PartialEq, Eq)]
 pub enum Root {
     Running,
-    Down(Ending, u32),
+    Down(RootEnding, u32),
 }
 
 #[derive(Clone, Copy, Debug, PartialEq, Eq)]
