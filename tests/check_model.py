@@ -11,7 +11,7 @@ import sys
 import check_graphml
 import model
 import schedules
-from model import CLOSED, CRASH, DELIVER, EXPANDING, HALVING, JOIN, LOSE
+from model import CLOSED, CRASH, DELIVER, DYNAMIC, EXPANDING, HALVING, JOIN, LOSE
 from schedules import Script
 
 
@@ -76,6 +76,24 @@ def test_joiner_that_nobody_hears_stops_at_12():
     run.until(20, kind=LOSE)
     assert happenings(run.group, "sent") == [(t, 1) for t in (0, 2, 4, 6, 8, 10)]
     assert happenings(run.group, "stopped") == [(12, 1)]
+
+
+def test_late_joining_beat_enrols_no_struck_party():
+    group = model.Group(DYNAMIC, 1, 2, 2, [2])
+    group.tick()
+    group.join(1)
+    group.deliver(1, 3)
+    while group.clock < 4:
+        group.tick()
+    group.deliver(1, 1)
+    group.deliver(1, 2)
+    group.leave(1)
+    group.tick()
+    group.deliver(1, 1)
+    group.deliver(1, 2)
+    assert happenings(group, "struck") == [(5, 1)]
+    group.deliver(1, 3)
+    assert (group.log[-1].word, group.parties[1].roll) == ("arrived", "struck")
 
 
 def test_rounds_last_tmax_while_nobody_is_on_the_roll():
@@ -189,7 +207,39 @@ def check_deliveries(watch):
         assert words.count("struck") == (i in watch.struck)
 
 
-def test_deliveries_and_struck_parties_of_drawn_runs():
+def told(log, owner, party):
+    """Makes of a party, or of the root as party 0, what the records of the log that it owns tell."""
+    ends = ("crashed", "stopped", "left")
+    for h in log:
+        if h.owner != owner:
+            continue
+        if h.word in ends:
+            party.state_before, party.state, party.ended_at = party.state, h.word, h.tick
+        elif h.word == "joining":
+            party.state, party.last_heard = "joining", h.tick
+        elif h.word == "leaving":
+            party.state = "leaving"
+        elif h.word == "enrolled":
+            party.roll = "on"
+        elif h.word == "struck":
+            party.roll = "struck"
+        elif h.word == "arrived" and party.state in model.LIVE:
+            party.last_heard = h.tick
+            party.state = {"joining": "in"}.get(party.state, party.state)
+    return party
+
+
+def check_told(group):
+    fresh = model.Group(group.kind, group.n, group.tmin, group.tmax, group.waits)
+    for i, party in group.parties.items():
+        read = told(group.log, i, fresh.parties[i])
+        for field in ("state", "state_before", "ended_at", "last_heard", "roll"):
+            assert getattr(read, field) == getattr(party, field), (i, field)
+    root = told(group.log, 0, model.Party("running", "off"))
+    assert (root.state, root.ended_at) == (group.root, group.root_ended_at)
+
+
+def test_what_the_logs_of_drawn_runs_tell():
     rng = random.Random(5)
     deliveries = struck = 0
     for _ in range(400):
@@ -197,6 +247,7 @@ def test_deliveries_and_struck_parties_of_drawn_runs():
         watch = Watch(model.open_group(start))
         model.play(watch.group, orders)
         check_deliveries(watch)
+        check_told(watch.group)
         deliveries, struck = deliveries + len(watch.deliveries), struck + len(watch.struck)
     assert deliveries > 10_000 and struck > 50, (deliveries, struck)
 

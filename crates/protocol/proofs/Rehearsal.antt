@@ -13,6 +13,7 @@ use Rattle.protocol.specs.Order.{LogInOrder}
 use Rattle.protocol.specs.Rehearsals.{Rehearsed, call_of, answer_of}
 use Rattle.protocol.specs.Promise.{KeepsTheRules}
 use Rattle.protocol.proofs.Runs.{run_of}
+use Rattle.protocol.proofs.Ticks.{counts_ticks}
 use Rattle.protocol.proofs.Shown.{logs_beats, settle_once, in_order}
 use Rattle.protocol.proofs.Deliveries.{are_the_deliveries}
 use Rattle.protocol.proofs.Strikes.{strikes_for_good}
@@ -46,6 +47,7 @@ module _ (m : Meaning) (plan : Plan) (room : ℕ) where
       subst₂ (λ ks t. EndTogetherForCause m plan calls ks t) (sym r.1) back (laws m sound plan room calls) in
       record {
         by_the_rules = h;
+        clock_counts_the_granted_ticks = counts_ticks m plan room xs s' h;
         root_ends_within_D_of_a_party_on_the_roll = e.root_follows;
         parties_on_the_roll_end_within_D_and_a_trip_of_the_root = e.parties_follow;
         party_that_was_in_stops_no_earlier_than_the_root = e.stops_for_cause;

@@ -9,7 +9,7 @@ use Rattle.protocol.specs.Runs.{number, played, unharmed}
 use Rattle.protocol.specs.Laws.{RootFollows, PartiesFollow, StopsForCause, NobodyStopped}
 use Rattle.protocol.specs.Beats.{BeatsAreLogged, SendingsSettleOnce, FreeFor, edges}
 use Rattle.protocol.specs.Order.{LogInOrder}
-use Rattle.protocol.specs.Rehearsals.{Rehearsed, call_of, answer_of}
+use Rattle.protocol.specs.Rehearsals.{Rehearsed, call_of, answer_of, granted_ticks}
 use Rattle.protocol.specs.Deliveries.{EdgesAreTheDeliveries}
 use Rattle.protocol.specs.Strikes.{StruckForGood}
 
@@ -26,6 +26,8 @@ SendsOnFreeLegs m plan room before call =
 pub record KeepsTheRules (m : Meaning) (plan : Plan) (room : ℕ) (steps : List Step) (s : Play) : Type 0 where
   -- each call did and answered what the rules say
   pub by_the_rules : Rehearsed m plan room (opened m plan) steps s
+  -- the clock tells how many ticks were granted
+  pub clock_counts_the_granted_ticks : s.table.clock ≡ granted_ticks steps
   -- a party on the roll ended at tick c and the clock is past c + D: the root has ended
   pub root_ends_within_D_of_a_party_on_the_roll : RootFollows m plan s
   -- the root ended at tick c and the clock is past c + D + trip: each party on the roll has ended

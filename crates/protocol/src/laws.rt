@@ -3,6 +3,7 @@ ghost use Rattle.protocol.specs.Beats.{RunsSettleEachSendingOnce, RunsPutEachBea
 ghost use Rattle.protocol.specs.Deliveries.{RunsShowTheirBeats};
 ghost use Rattle.protocol.specs.Laws.{RunsEndTogetherForCause};
 ghost use Rattle.protocol.specs.Order.{RunsKeepTheirLogInOrder};
+ghost use Rattle.protocol.specs.Rehearsals.{RunsCountTheirTicks};
 ghost use Rattle.protocol.specs.Strikes.{RunsStrikeForGood};
 
 // Every run of every group ends together and for cause.
@@ -13,6 +14,11 @@ pub fn runs_end_together_for_cause()
 // The log of every run is in order, and is the group's own.
 pub fn runs_keep_their_log_in_order()
     ensures { RunsKeepTheirLogInOrder }
+{}
+
+// The clock of every run tells how many ticks were granted.
+pub fn runs_count_their_ticks()
+    ensures { RunsCountTheirTicks }
 {}
 
 // Every run shows its beats in its log, and its granted deliveries by the log's edges.
