@@ -15,6 +15,7 @@ pub mod Order
 pub mod Rehearsals
 pub mod Deliveries
 pub mod Strikes
+pub mod Told
 pub mod Kept
 pub mod Views
 pub mod Promise

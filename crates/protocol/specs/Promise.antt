@@ -12,6 +12,7 @@ use Rattle.protocol.specs.Order.{LogInOrder}
 use Rattle.protocol.specs.Rehearsals.{Rehearsed, call_of, answer_of, granted_ticks}
 use Rattle.protocol.specs.Deliveries.{EdgesAreTheDeliveries}
 use Rattle.protocol.specs.Strikes.{StruckForGood}
+use Rattle.protocol.specs.Told.{TellsTheGroup}
 
 -- what is said of each call among the calls, and of those before it
 abbrev pub AtEachCall : List Call → (List Call → Call → Type 0) → Type 0
@@ -46,5 +47,7 @@ pub record KeepsTheRules (m : Meaning) (plan : Plan) (room : ℕ) (steps : List 
   pub struck_is_for_good : StruckForGood m plan room (map call_of steps)
   -- the ticks of the log never fall, none is later than the clock, each record is of the root or a party of the plan, and the group never takes its log for another's
   pub log_in_order : LogInOrder plan s
+  -- the log tells where each party stands, when it last heard and whether it is on the roll, and how the root is
+  pub log_tells_the_group : TellsTheGroup plan s
   -- the edges of the log are the granted deliveries, in their order: from the sending that put the beat on its leg to its arrival
   pub edges_are_the_granted_deliveries : EdgesAreTheDeliveries m plan room steps s.log (edges 0 s.log)

@@ -5,6 +5,7 @@ ghost use Rattle.protocol.specs.Laws.{RunsEndTogetherForCause};
 ghost use Rattle.protocol.specs.Order.{RunsKeepTheirLogInOrder};
 ghost use Rattle.protocol.specs.Rehearsals.{RunsCountTheirTicks};
 ghost use Rattle.protocol.specs.Strikes.{RunsStrikeForGood};
+ghost use Rattle.protocol.specs.Told.{RunsTellTheirGroup};
 
 // Every run of every group ends together and for cause.
 pub fn runs_end_together_for_cause()
@@ -44,4 +45,9 @@ pub fn beats_take_free_legs()
 // Every run strikes its parties for good.
 pub fn runs_strike_for_good()
     ensures { RunsStrikeForGood }
+{}
+
+// The log of every run tells of the root and of each party what has become of them.
+pub fn runs_tell_their_group()
+    ensures { RunsTellTheirGroup }
 {}

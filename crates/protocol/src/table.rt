@@ -1,10 +1,9 @@
 // All that a group changes.
 ghost use Rattle.std.specs.Prelude.{◌≡◌, take};
 
-use std::fmt;
-
 use crate::party::Party;
 use crate::plan::Plan;
+use std::fmt;
 
 // How the root has ended; it never leaves.
 #[derive(Clone, Copy, Debug, PartialEq, Eq)]
