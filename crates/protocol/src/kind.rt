@@ -1,7 +1,8 @@
 // Which groups there are.
-ghost use Rattle.std.specs.Prelude.{◌≡◌};
+ghost use Rattle.std.specs.Prelude.{◌≡◌, Some};
 ghost use Rattle.std.specs.Option.{ok_or};
 ghost use Rattle.protocol.specs.Kinds.{group_kind, group_number};
+ghost use Rattle.protocol.specs.Texts.{kind_text};
 
 use std::fmt;
 
@@ -44,6 +45,8 @@ impl From<GroupKind> for u8 {
 }
 
 impl fmt::Display for GroupKind {
+    ghost output = { λ x. Some (kind_text x) };
+
     fn fmt<W: fmt::Write>(&self, f: &mut fmt::Formatter<W>) -> fmt::Result {
         f.write_str(match self {
             GroupKind::Closed => "closed",
