@@ -1,5 +1,6 @@
 // What whoever looks on may know of a group.
 ghost use Rattle.std.specs.Prelude.{◌≡◌};
+ghost use Rattle.protocol.specs.Order.{TellsOwnLog};
 ghost use Rattle.protocol.specs.Runs.{is_own_log};
 ghost use Rattle.protocol.specs.Views.{play};
 ghost use Rattle.group.specs.Views.{seen_party, seen_beat};
@@ -48,8 +49,10 @@ impl<P: Pace> Group<P> {
     }
 
     // Is this the log that the group wrote?
+    #[tactic(auto, using(protocol::proofs::Own::tells_own))]
     pub fn wrote(&self, log: &SlotList<'_, Happening>) -> bool
-        ensures { result ≡ is_own_log (play self.now.table log.now) }
+        ensures answer { result ≡ is_own_log (play self.now.table log.now) }
+        ensures own { TellsOwnLog result (play self.now.table log.now) }
     {
         is_own_log(&self.table, log)
     }
