@@ -10,12 +10,12 @@ use crate::acts::{do_crash, do_deliver, do_join, do_leave, do_lose};
 use crate::advancing::tick_until;
 use crate::group::Group;
 use crate::rounds::do_tick;
-use dues::next_due;
+use crate::dues::next_due;
 use pace::Pace;
 use protocol::call::Call;
 use protocol::happening::Happening;
 use protocol::refusal::Refusal;
-use questions::{ask_beat, ask_crash, ask_join, ask_leave, ask_quiet_tick, ask_tick};
+use crate::questions::{ask_beat, ask_crash, ask_join, ask_leave, ask_quiet_tick, ask_tick};
 use slots::SlotList;
 
 impl<P: Pace> Group<P> {

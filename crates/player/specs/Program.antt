@@ -6,6 +6,7 @@ use Rattle.pace.specs.Questions.{limits_no, count_no}
 use Rattle.protocol.specs.declared.happening.Happening.{Happening}
 use Rattle.protocol.specs.declared.plan.Plan.{Plan}
 use Rattle.protocol.specs.Group.{opened}
+use Rattle.protocol.specs.Plans.{parties_no}
 use Rattle.protocol.specs.Promise.{KeepsTheRules}
 use Rattle.orders.specs.declared.fault.ReadFault.{ReadFault}
 use Rattle.orders.specs.declared.order.Order.{Order}
@@ -31,10 +32,6 @@ waits_of TwoPhase tmin tmax = phases 63 tmin tmax
 -- the pace that a file asks for, under its cap
 abbrev pub pace_of : Start → Meaning
 pace_of s = capped s.cap (record { tmin = s.tmin; tmax = s.tmax; waits = waits_of s.pace s.tmin s.tmax })
-
--- 5: is the number of parties 1 to 32?
-abbrev pub parties_no : ℕ → ℕ
-parties_no n = cond (nat_le 1 n && nat_le n 32) 0 5
 
 -- the number of a question, or where it is answered yes what the later ones come to
 abbrev pub or_else : ℕ → ℕ → ℕ
