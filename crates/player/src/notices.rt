@@ -2,6 +2,7 @@
 ghost use Rattle.std.specs.Prelude.{◌≡◌, ◌≤◌, ◌++◌, length};
 ghost use Rattle.text.specs.Lines.{padded};
 ghost use Rattle.player.specs.Playing.{fault_number, stop_told};
+ghost use Rattle.player.specs.Example.{NoticesByHand};
 ghost use Rattle.player.specs.Notices.{refused_line, cut_line, stopped_line, stop_line, notice_lines};
 
 use crate::play::PlayStop;
@@ -27,6 +28,7 @@ pub fn notices(outcome: Result<PlayedFile, RefusedFile>) -> LineBytes
     ensures bytes { result.bytes ≡ padded (notice_lines outcome) }
     ensures len { result.len ≡ length (notice_lines outcome) }
     ensures within { result.len ≤ 128 }
+    ensures by_hand { NoticesByHand }
 {
     notice_lines(outcome).into_bytes()
 }
