@@ -142,6 +142,18 @@ runs =
       sendings = 0 ∷ 2 ∷ 4 ∷ 4 ∷ 5 ∷ [];
       records = 14;
     }
+    -- a root that has ended enrols nobody
+    ∷ example (calls (new (halves 2 4) (one Expanding)) (Join 1 ∷ Crash 0 ∷ Deliver 1 3 ∷ []))
+    record nothing {
+      waits = 4 ∷ 2 ∷ [];
+      total = 6;
+      patience = 12;
+      answers = granted (Join 1 ∷ Crash 0 ∷ Deliver 1 3 ∷ []);
+      root = root_crashed 0;
+      parties = Live Joining ∷ [];
+      sendings = 0 ∷ [];
+      records = 4;
+    }
     -- it hears last at 9 and has left at 21; a joining beat is due at 2, a reply and a joining beat at 6
     ∷ example (calls (new (halves 2 4) (one Dynamic)) leaves)
     record nothing {
