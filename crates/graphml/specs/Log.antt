@@ -59,5 +59,7 @@ pub record ShowsTheLog (n : ℕ) (log : List Happening) (x : Exported) (bs : Lis
   pub edges : x.whole ≡ true → edges_read bs ≡ all_read (edges 0 log)
   pub no_others : x.whole ≡ true → items_read bs ≡ all_read (items_of n log)
   -- and so each place of the log stands once
-  pub each_place_once : x.whole ≡ true → OwnersWithin n log → (k : ℕ) → k < length log → times k (places_read bs) ≡ 1
-  pub edges_have_both_ends : x.whole ≡ true → OwnersWithin n log → Linked n log → All (HasBothEnds bs) (edges_read bs)
+  pub each_place_once :
+      x.whole ≡ true → OwnersWithin n log → (k : ℕ) → k < length log → times k (places_read bs) ≡ 1
+  pub edges_have_both_ends :
+      x.whole ≡ true → OwnersWithin n log → Linked n log → All (HasBothEnds bs) (edges_read bs)
