@@ -1,11 +1,12 @@
 -- Each place of the log stands once in its file.
-use Rattle.std.proofs.Common.{◌≡◌, ℕ, zero, suc, ◌+◌, ◌<◌, ◌≤◌, ◌==◌, Bool, true, false, cond, List, [], ◌∷◌, ◌++◌, map, length, refl, ap, ◌∙◌, subst, zero-add, eq-eqb, ne_eqb, eqb-true, ⊎_elim, arith}
-use Rattle.std.specs.List.{flat_map}
+use Rattle.std.proofs.Common.{◌≡◌, ℕ, zero, suc, ◌+◌, ◌<◌, ◌≤◌, ◌==◌, Bool, true, false, cond, List, [], ◌∷◌, ◌++◌, map, length, refl, ap, ◌∙◌, subst, zero-add, eq-eqb, ne_eqb, eqb-true, ⊎_elim, arith, Some}
+use Rattle.std.specs.List.{flat_map, All}
+use Rattle.std.proofs.lemmas.List.Elements.{All-cons}
 use Rattle.std.proofs.lemmas.Bool.{cases_Bool, eqb-false}
 use Rattle.protocol.specs.declared.happening.Happening.{Happening}
-use Rattle.protocol.specs.Beats.{Edge, edges, happening_at}
-use Rattle.graphml.specs.Reading.{Entry, Item, happened, joined, place_of}
-use Rattle.graphml.specs.Log.{entry, entries, items_from, items_of, OwnersWithin, times}
+use Rattle.protocol.specs.Beats.{Edge, edge as arc, edges, happening_at, is_arrival, Linked}
+use Rattle.graphml.specs.Reading.{Entry, Item, happened, joined, place_of, places_read}
+use Rattle.graphml.specs.Log.{entry, entries, items_from, items_of, OwnersWithin, times, HasBothEnds, all_read}
 use Rattle.graphml.proofs.Told.{read}
 use Rattle.graphml.proofs.Found.{split_places}
 
@@ -81,3 +82,20 @@ module _ (log : List Happening) (k : ℕ) (here : k < length log) where
 
 pub places_once : (n : ℕ) (log : List Happening) → OwnersWithin n log → (k : ℕ) → k < length log → times_in k (items_of n log) ≡ 1
 places_once n log within k here = let h = within k here in once log k here 0 (n + 1) (omega arith) (omega arith)
+
+-- both ends of each edge are places of the log
+module _ (bs : List ℕ) (log : List Happening) (once_each : (k : ℕ) → k < length log → times k (places_read bs) ≡ 1) where
+  both : (b : Bool) (e : Edge) (es : List Edge) → (b ≡ true → HasBothEnds bs (Some e)) → All (HasBothEnds bs) (all_read es) → All (HasBothEnds bs) (all_read (cond b (e ∷ es) es))
+  both true e es p q = All-cons (HasBothEnds bs) (Some e) (all_read es) (p refl) q
+  both false e es p q = q
+
+  joined_from : (k : ℕ) (hs : List Happening) → k + length hs ≤ length log → ((d : ℕ) → d < length hs → is_arrival (happening_at hs d).kind ≡ true → (happening_at hs d).link < length log) →
+      All (HasBothEnds bs) (all_read (edges k hs))
+  joined_from k [] h links = λ j d l. absurd (omega arith)
+  joined_from k (w ∷ hs) h links =
+      both (is_arrival w.kind) (arc w.link k) (edges (suc k) hs)
+      (λ e. (once_each w.link (links 0 (omega arith) e), once_each k (omega arith)))
+      (joined_from (suc k) hs (omega arith) (λ d l. links (suc d) (omega arith)))
+
+  pub ends_found : (n : ℕ) → Linked n log → All (HasBothEnds bs) (all_read (edges 0 log))
+  ends_found n linked = joined_from 0 log (omega arith) (λ d l e. let at = (linked d l e).earlier in omega arith)

@@ -197,16 +197,20 @@ kept_first i room (element t f a) =
     (λ x.
     ⊎_elim
     (λ y.
-    let e = kept_first i (left - cost f) a in
-    (e.0, ap (λ (l : List Item). mark i t ++ (things (whose i t) f ++ l)) e.1
-        ∙ regroup (mark i t) (things (whose i t) f) (things i (kept (left - cost f) a)) e.0
-        ∙ ap (λ g. things i g ++ e.0) (sym (kept_on room t f a x y))))
+    let e = kept_first i (left - cost f) a in (
+      e.0,
+      ap (λ (l : List Item). mark i t ++ (things (whose i t) f ++ l)) e.1
+          ∙ regroup (mark i t) (things (whose i t) f) (things i (kept (left - cost f) a)) e.0
+          ∙ ap (λ g. things i g ++ e.0) (sym (kept_on room t f a x y)),
+    ))
     (λ y.
-    let e = kept_first (whose i t) left f in
-    (e.0 ++ things i a, ap (λ (l : List Item). mark i t ++ (l ++ things i a)) e.1
-        ∙ ap (λ (l : List Item). mark i t ++ l) (append_assoc (things (whose i t) (kept left f)) e.0 (things i a) ∙ ap (λ (l : List Item). l ++ (e.0 ++ things i a)) (sym (append-nil (things (whose i t) (kept left f)))))
-        ∙ sym (append_assoc (mark i t) (things (whose i t) (kept left f) ++ []) (e.0 ++ things i a))
-        ∙ ap (λ g. things i g ++ (e.0 ++ things i a)) (sym (kept_cut room t f a x y))))
+    let e = kept_first (whose i t) left f in (
+      e.0 ++ things i a,
+      ap (λ (l : List Item). mark i t ++ (l ++ things i a)) e.1
+          ∙ ap (λ (l : List Item). mark i t ++ l) (append_assoc (things (whose i t) (kept left f)) e.0 (things i a) ∙ ap (λ (l : List Item). l ++ (e.0 ++ things i a)) (sym (append-nil (things (whose i t) (kept left f)))))
+          ∙ sym (append_assoc (mark i t) (things (whose i t) (kept left f) ++ []) (e.0 ++ things i a))
+          ∙ ap (λ g. things i g ++ (e.0 ++ things i a)) (sym (kept_cut room t f a x y)),
+    ))
     (cases_Bool (all_fits left f)))
     (λ x. (things i (element t f a), ap (λ g. things i g ++ things i (element t f a)) (sym (kept_stop room t f a x))))
     (cases_Bool (leb (size t) room))

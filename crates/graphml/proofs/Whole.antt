@@ -1,8 +1,9 @@
 -- The whole file, with its frame.
 use Rattle.std.proofs.Common.{◌≡◌, ℕ, ◌+◌, ◌-◌, ◌^◌, ◌<◌, ◌≤◌, Bool, true, cond, leb, List, ◌++◌, length, take, drop, Some, Option, Ok, Err, Result, sym, refl, ap, ◌∙◌, subst, subst₂, zero-add, arith, length-append, le-leb, leb-true}
-use Rattle.std.specs.List.{flat_map}
+use Rattle.std.specs.List.{flat_map, All}
 use Rattle.std.proofs.lemmas.List.{take_at, length-map}
 use Rattle.protocol.specs.declared.happening.Happening.{Happening}
+use Rattle.protocol.specs.Beats.{edges}
 use Rattle.text.specs.Bytes.{placed}
 use Rattle.text.proofs.Placed.{reached}
 use Rattle.graphml.specs.declared.answer.Exported.{Exported}
@@ -15,15 +16,15 @@ use Rattle.graphml.specs.Body.{body}
 use Rattle.graphml.specs.Counts.{count, is_happening, is_edge}
 use Rattle.graphml.specs.Numbers.{Each, Fits}
 use Rattle.graphml.specs.Closing.{Closes}
-use Rattle.graphml.specs.Reading.{Item, items_read, happening_of, place_of, edge_of, parties_read}
-use Rattle.graphml.specs.Log.{items_of, times, all_read, ShowsTheLog}
+use Rattle.graphml.specs.Reading.{Item, items_read, happening_of, place_of, places_read, edge_of, edges_read, parties_read}
+use Rattle.graphml.specs.Log.{items_of, OwnersWithin, times, HasBothEnds, all_read, ShowsTheLog}
 use Rattle.graphml.specs.Answer.{in_frame, part, over, written, summary, exported}
 use Rattle.graphml.specs.State.{State, wrote, drawn}
 use Rattle.graphml.proofs.Forests.{kept_le, kept_whole, length_render}
 use Rattle.graphml.proofs.Shapes.{in_run, kept_shaped, kept_each, body_shaped}
 use Rattle.graphml.proofs.Growing.{Framed}
 use Rattle.graphml.proofs.Told.{things, frame_told, all_counted, edges_counted, first_taken}
-use Rattle.graphml.proofs.Once.{places_once}
+use Rattle.graphml.proofs.Once.{places_once, ends_found}
 use Rattle.graphml.proofs.Found.{part_closes, body_framed, body_is, edges_found, happenings_found, parties_found, keys_found}
 
 pub length_head : length head ≡ 255
@@ -108,6 +109,12 @@ module _ (out : List ℕ) (log : List Happening) (n : ℕ) (h : 275 ≤ length o
     all_told : whole ≡ true → items_read text ≡ all_read (items_of n log)
     all_told w = told ∙ ap all_read (ap (things 0) (all_kept w) ∙ body_is log n)
 
+    all_edges : whole ≡ true → edges_read text ≡ all_read (edges 0 log)
+    all_edges w = ap (flat_map edge_of) (all_told w) ∙ edges_found n log
+
+    once_each : whole ≡ true → OwnersWithin n log → (k : ℕ) → k < length log → times k (places_read text) ≡ 1
+    once_each w within k here = ap (λ (l : List (Option Item)). times k (flat_map place_of l)) (all_told w) ∙ places_once n log within k here
+
     -- of the answer to it
     shown_text : ShowsTheLog n log (summary fit whole) text
     shown_text = record {
@@ -117,9 +124,10 @@ module _ (out : List ℕ) (log : List Happening) (n : ℕ) (h : 275 ≤ length o
       keys = keys_found fit (kept_each Framed (length out - 275) (body log n) (body_framed log n));
       parties = λ w. ap (λ g. parties_read (in_frame g)) (all_kept w) ∙ parties_found log n small;
       happenings = λ w i h. ap (flat_map (happening_of i)) (all_told w) ∙ happenings_found n log i h;
-      edges = λ w. ap (flat_map edge_of) (all_told w) ∙ edges_found n log;
+      edges = all_edges;
       no_others = all_told;
-      each_place_once = λ w within k here. ap (λ (l : List (Option Item)). times k (flat_map place_of l)) (all_told w) ∙ places_once n log within k here;
+      each_place_once = once_each;
+      edges_have_both_ends = λ w within linked. subst (All (HasBothEnds text)) (sym (all_edges w)) (ends_found text log (once_each w within) n linked);
     }
 
     pub shown : {out' : List ℕ} {lent : ℕ} {u : State} {r : Bool} → out' ≡ over text out → Finished lent u → r ≡ whole →

@@ -1,7 +1,8 @@
 -- What a reader is to find of a log in its file.
-use Rattle.std.specs.Prelude.{◌≡◌, ℕ, zero, suc, ◌+◌, ◌<◌, ◌≤◌, cond, ◌==◌, true, List, [], ◌∷◌, ◌++◌, map, length, take, Some, Option}
+use Rattle.std.specs.Prelude.{◌≡◌, ℕ, zero, suc, ◌+◌, ◌<◌, ◌≤◌, cond, ◌==◌, true, List, [], ◌∷◌, ◌++◌, map, length, take, Some, None, Option}
+use Rattle.std.specs.List.{All}
 use Rattle.protocol.specs.declared.happening.Happening.{Happening}
-use Rattle.protocol.specs.Beats.{edges, happening_at}
+use Rattle.protocol.specs.Beats.{Edge, edges, happening_at, Linked}
 use Rattle.graphml.specs.declared.answer.Exported.{Exported}
 use Rattle.graphml.specs.Reading.{Entry, Item, happened, joined, items_read, happenings_read, edges_read, places_read, parties_read, keys_read, happening_keys}
 
@@ -36,6 +37,11 @@ abbrev pub times : ℕ → List ℕ → ℕ
 times k [] = 0
 times k (j ∷ js) = cond (j == k) 1 0 + times k js
 
+-- both ends of an edge that was read are happenings in the file, each there once
+abbrev pub HasBothEnds : List ℕ → Option Edge → Type 0
+HasBothEnds bs None = ⊥
+HasBothEnds bs (Some e) = (times e.source (places_read bs) ≡ 1) × (times e.target (places_read bs) ≡ 1)
+
 -- every one of these, and each as it is
 abbrev pub all_read : {A : Type 0} → List A → List (Option A)
 all_read xs = map (λ x. Some x) xs
@@ -53,4 +59,7 @@ pub record ShowsTheLog (n : ℕ) (log : List Happening) (x : Exported) (bs : Lis
   pub edges : x.whole ≡ true → edges_read bs ≡ all_read (edges 0 log)
   pub no_others : x.whole ≡ true → items_read bs ≡ all_read (items_of n log)
   -- and so each place of the log stands once
-  pub each_place_once : x.whole ≡ true → OwnersWithin n log → (k : ℕ) → k < length log → times k (places_read bs) ≡ 1
+  pub each_place_once :
+      x.whole ≡ true → OwnersWithin n log → (k : ℕ) → k < length log → times k (places_read bs) ≡ 1
+  pub edges_have_both_ends :
+      x.whole ≡ true → OwnersWithin n log → Linked n log → All (HasBothEnds bs) (edges_read bs)

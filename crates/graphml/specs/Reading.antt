@@ -122,14 +122,19 @@ run_items n xs inside =
     if bytes_eq n (codes "node") then each_in (node_items (id_of xs)) inside
     else ((if bytes_eq n (codes "edge") then edge_told xs else None) ∷ [])
 
+abbrev pub graphml_space : List ℕ
+graphml_space = codes "http://graphml.graphdrawing.org/xmlns"
+
 -- what f reads of each element right in the outermost, where that is GraphML's
-abbrev pub in_file : {A : Type 0} → (List ℕ → List Attribute → Content → List A) → List ℕ → List Attribute → Content → List A
+abbrev pub in_file : {A : Type 0} →
+    (List ℕ → List Attribute → Content → List A) → List ℕ → List Attribute → Content → List A
 in_file f n xs inside =
-    if bytes_eq n (codes "graphml") && bytes_eq (value_at (codes "xmlns") xs) (codes "http://graphml.graphdrawing.org/xmlns")
+    if bytes_eq n (codes "graphml") && bytes_eq (value_at (codes "xmlns") xs) graphml_space
     then each_in f inside else []
 
 -- what f reads of each element right in the graph of the whole
-abbrev pub in_run : {A : Type 0} → (List ℕ → List Attribute → Content → List A) → List ℕ → List Attribute → Content → List A
+abbrev pub in_run : {A : Type 0} →
+    (List ℕ → List Attribute → Content → List A) → List ℕ → List Attribute → Content → List A
 in_run f n xs inside =
     if bytes_eq n (codes "graph") && bytes_eq (id_of xs) (codes "run") && is_directed xs then each_in f inside else []
 
@@ -166,7 +171,7 @@ places_read bs = flat_map place_of (items_read bs)
 abbrev pub edges_read : List ℕ → List (Option Edge)
 edges_read bs = flat_map edge_of (items_read bs)
 
--- the id of an element, if it is such a graph
+-- whether an element is the inner graph of the node of that id
 abbrev pub inner_graph : (id : List ℕ) → List ℕ → List Attribute → Content → List Bool
 inner_graph id n xs inside = is_inner_graph id n xs ∷ []
 
@@ -197,7 +202,8 @@ key id of name type = record { id = id; of = of; name = name; type = type }
 abbrev pub key_item : List ℕ → List Attribute → Content → List (Option Key)
 key_item n xs inside =
     if bytes_eq n (codes "key")
-    then Some (key (id_of xs) (value_at (codes "for") xs) (value_at (codes "attr.name") xs) (value_at (codes "attr.type") xs)) ∷ []
+    then Some (key (id_of xs) (value_at (codes "for") xs)
+    (value_at (codes "attr.name") xs) (value_at (codes "attr.type") xs)) ∷ []
     else (if bytes_eq n (codes "graph") then [] else None ∷ [])
 
 unfoldable pub keys_read : List ℕ → List (Option Key)

@@ -18,17 +18,17 @@ const HEAD: &[u8] =
 const TAIL: &[u8] = b"</graph>\n</graphml>\n";
 
 // The graph of the whole run is open: 20 bytes are set aside.
-pub struct RunGraph {
+pub(crate) struct RunGraph {
     open: (),
 }
 
 // A party's node is open: 8 bytes more.
-pub struct PartyNode {
+pub(crate) struct PartyNode {
     outer: RunGraph,
 }
 
 // A party's inner graph is open: 9 bytes more.
-pub struct PartyGraph {
+pub(crate) struct PartyGraph {
     outer: PartyNode,
 }
 

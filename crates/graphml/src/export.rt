@@ -24,10 +24,14 @@ pub fn export<P: Pace>(
 ) -> Result<Exported, Refusal>
     ensures answer { result ≡ export_answer (play group.now.table log.now) group.now.plan.n (length out.old) }
     ensures bytes { out.new ≡ export_bytes (play group.now.table log.now) group.now.plan.n out.old }
+    ensures whole { IfOk result (λ x. x.whole ≡ true →
+        take x.bytes out.new ≡ in_frame (body (items log.now) group.now.plan.n)) }
+    ensures cut { IfOk result (λ x. x.whole ≡ false →
+        EndsAt (length out.old - 275) (body (items log.now) group.now.plan.n)) }
+    // what a reader sees who has the written bytes alone
     ensures closes { IfOk result (λ x. Closes (take x.bytes out.new)) }
-    ensures cut { IfOk result (λ x. x.whole ≡ false → EndsAt (length out.old - 275) (body (items log.now) group.now.plan.n)) }
-    ensures whole { IfOk result (λ x. x.whole ≡ true → take x.bytes out.new ≡ in_frame (body (items log.now) group.now.plan.n)) }
-    ensures shown { IfOk result (λ x. ShowsTheLog group.now.plan.n (items log.now) x (take x.bytes out.new)) }
+    ensures shown { IfOk result (λ x.
+        ShowsTheLog group.now.plan.n (items log.now) x (take x.bytes out.new)) }
 {
     if !group.wrote(log) {
         return Err(Refusal::LogDiffers);

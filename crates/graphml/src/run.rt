@@ -19,9 +19,11 @@ pub const FRAME: usize = 275;
 pub(crate) fn write_run(log: &[Happening], parties: u8, out: &mut [u8]) -> Result<Exported, Refusal>
     ensures answer { result ≡ exported log.now parties (length out.old) }
     ensures bytes { out.new ≡ written log.now parties out.old }
+    ensures whole { IfOk result (λ x. x.whole ≡ true →
+        take x.bytes out.new ≡ in_frame (body log.now parties)) }
+    ensures cut { IfOk result (λ x. x.whole ≡ false →
+        EndsAt (length out.old - 275) (body log.now parties)) }
     ensures closes { IfOk result (λ x. Closes (take x.bytes out.new)) }
-    ensures cut { IfOk result (λ x. x.whole ≡ false → EndsAt (length out.old - 275) (body log.now parties)) }
-    ensures whole { IfOk result (λ x. x.whole ≡ true → take x.bytes out.new ≡ in_frame (body log.now parties)) }
     ensures shown { IfOk result (λ x. ShowsTheLog parties log.now x (take x.bytes out.new)) }
 {
     let size = out.len();
