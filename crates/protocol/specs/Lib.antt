@@ -16,6 +16,7 @@ pub mod Rehearsals
 pub mod Deliveries
 pub mod Strikes
 pub mod Told
+pub mod Sendings
 pub mod Kept
 pub mod Cases
 pub mod Views
