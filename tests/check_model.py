@@ -207,6 +207,12 @@ def check_deliveries(watch):
         assert words.count("struck") == (i in watch.struck)
 
 
+def check_sendings(group):
+    settled = sorted(h.link for h in group.log if h.word in ("arrived", "lost"))
+    under_way = sorted(beat.sent_at for party in group.parties.values() for beat in party.legs.values() if beat)
+    assert sorted(settled + under_way) == [k for k, h in enumerate(group.log) if h.word == "sent"]
+
+
 def told(log, owner, party):
     """Makes of a party, or of the root as party 0, what the records of the log that it owns tell."""
     ends = ("crashed", "stopped", "left")
@@ -247,6 +253,7 @@ def test_what_the_logs_of_drawn_runs_tell():
         watch = Watch(model.open_group(start))
         model.play(watch.group, orders)
         check_deliveries(watch)
+        check_sendings(watch.group)
         check_told(watch.group)
         deliveries, struck = deliveries + len(watch.deliveries), struck + len(watch.struck)
     assert deliveries > 10_000 and struck > 50, (deliveries, struck)

@@ -10,6 +10,7 @@ use Rattle.protocol.specs.Laws.{EndTogetherForCause}
 use Rattle.protocol.specs.Beats.{BeatsAreLogged, SendingsSettleOnce}
 use Rattle.protocol.specs.Deliveries.{RunsShowTheirBeats}
 use Rattle.protocol.specs.Order.{LogInOrder}
+use Rattle.protocol.specs.Sendings.{NoBeatVanishes}
 use Rattle.protocol.specs.Told.{TellsTheGroup}
 use Rattle.protocol.specs.Rehearsals.{Rehearsed, call_of, answer_of}
 use Rattle.protocol.specs.Promise.{KeepsTheRules}
@@ -17,6 +18,7 @@ use Rattle.protocol.proofs.Runs.{run_of}
 use Rattle.protocol.proofs.Ticks.{counts_ticks}
 use Rattle.protocol.proofs.Shown.{logs_beats, settle_once, in_order}
 use Rattle.protocol.proofs.Deliveries.{are_the_deliveries}
+use Rattle.protocol.proofs.Sendings.{no_beat_vanishes}
 use Rattle.protocol.proofs.Strikes.{strikes_for_good}
 use Rattle.protocol.proofs.Told.{tells_the_group}
 use Rattle.protocol.proofs.Ends.{laws}
@@ -56,6 +58,7 @@ module _ (m : Meaning) (plan : Plan) (room : ℕ) where
         nobody_stops_unharmed = e.none_stops_unharmed;
         beats_go_back_to_their_sendings = subst (BeatsAreLogged plan) back (logs_beats m plan room calls);
         no_sending_settles_twice = subst (SendingsSettleOnce plan) back (settle_once m sound plan room calls);
+        no_beat_vanishes = subst (NoBeatVanishes plan) back (no_beat_vanishes m sound plan room calls);
         sends_fall_on_free_legs = λ before after call among. free_legs m sound plan room before call;
         struck_is_for_good = strikes_for_good m sound plan room calls;
         log_in_order = subst (LogInOrder plan) back (in_order m sound plan room calls);

@@ -17,6 +17,7 @@ pub mod Rehearsals
 pub mod Deliveries
 pub mod Strikes
 pub mod Told
+pub mod Sendings
 pub mod Kept
 pub mod Views
 pub mod Promise

@@ -11,6 +11,7 @@ use Rattle.protocol.specs.Beats.{BeatsAreLogged, SendingsSettleOnce, FreeFor, ed
 use Rattle.protocol.specs.Order.{LogInOrder}
 use Rattle.protocol.specs.Rehearsals.{Rehearsed, call_of, answer_of, granted_ticks}
 use Rattle.protocol.specs.Deliveries.{EdgesAreTheDeliveries}
+use Rattle.protocol.specs.Sendings.{NoBeatVanishes}
 use Rattle.protocol.specs.Strikes.{StruckForGood}
 use Rattle.protocol.specs.Told.{TellsTheGroup}
 
@@ -41,6 +42,8 @@ pub record KeepsTheRules (m : Meaning) (plan : Plan) (room : ℕ) (steps : List 
   pub beats_go_back_to_their_sendings : BeatsAreLogged plan s
   -- no sending is the source of two: each arrives or is lost once at most
   pub no_sending_settles_twice : SendingsSettleOnce plan s
+  -- no beat vanishes: each sending has arrived, is lost or is under way
+  pub no_beat_vanishes : NoBeatVanishes plan s
   -- no call puts a beat on a leg that holds one
   pub sends_fall_on_free_legs : AtEachCall (map call_of steps) (SendsOnFreeLegs m plan room)
   -- from its striking on, a party is struck after each call, and no beat goes out to it

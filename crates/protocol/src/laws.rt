@@ -4,6 +4,7 @@ ghost use Rattle.protocol.specs.Deliveries.{RunsShowTheirBeats};
 ghost use Rattle.protocol.specs.Laws.{RunsEndTogetherForCause};
 ghost use Rattle.protocol.specs.Order.{RunsKeepTheirLogInOrder};
 ghost use Rattle.protocol.specs.Rehearsals.{RunsCountTheirTicks};
+ghost use Rattle.protocol.specs.Sendings.{RunsLetNoBeatVanish};
 ghost use Rattle.protocol.specs.Strikes.{RunsStrikeForGood};
 ghost use Rattle.protocol.specs.Told.{RunsTellTheirGroup};
 
@@ -30,6 +31,11 @@ pub fn runs_show_their_beats()
 // No sending of a run arrives or is lost twice.
 pub fn runs_settle_each_sending_once()
     ensures { RunsSettleEachSendingOnce }
+{}
+
+// No beat of a run vanishes: each sending has arrived, is lost or is under way.
+pub fn runs_let_no_beat_vanish()
+    ensures { RunsLetNoBeatVanish }
 {}
 
 // Each beat of a run was put on its leg by the call that wrote the record of its sending.
