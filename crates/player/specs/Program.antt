@@ -1,5 +1,5 @@
 -- What a whole file comes to: what is printed of it, and what the lent slots and bytes then hold.
-use Rattle.std.specs.Prelude.{◌≡◌, ℕ, zero, suc, cond, not, ◌&&◌, List, [], ◌++◌, length, drop, Ok, Err, Result, nat_le}
+use Rattle.std.specs.Prelude.{◌≡◌, ℕ, zero, suc, not, List, [], ◌++◌, length, drop, Ok, Err, Result}
 use Rattle.pace.specs.Meaning.{Meaning}
 use Rattle.pace.specs.Waits.{halving, phases, capped}
 use Rattle.pace.specs.Questions.{limits_no, count_no}

@@ -30,7 +30,7 @@ impl From<Refusal> for PlayFault {
 
 impl PlayFault {
     // The number of the question that was answered no. Not a `From`, which would not say so.
-    pub fn number(self) -> u8
+    pub(crate) fn number(self) -> u8
         ensures { result ≡ fault_number self }
     {
         match self {
