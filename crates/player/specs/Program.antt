@@ -1,11 +1,12 @@
 -- What a whole file comes to: what is printed of it, and what the lent slots and bytes then hold.
-use Rattle.std.specs.Prelude.{◌≡◌, ℕ, zero, suc, cond, not, ◌&&◌, List, [], ◌++◌, length, drop, Ok, Err, Result, nat_le}
+use Rattle.std.specs.Prelude.{◌≡◌, ℕ, zero, suc, not, List, [], ◌++◌, length, drop, Ok, Err, Result}
 use Rattle.pace.specs.Meaning.{Meaning}
 use Rattle.pace.specs.Waits.{halving, phases, capped}
 use Rattle.pace.specs.Questions.{limits_no, count_no}
 use Rattle.protocol.specs.declared.happening.Happening.{Happening}
 use Rattle.protocol.specs.declared.plan.Plan.{Plan}
 use Rattle.protocol.specs.Group.{opened}
+use Rattle.protocol.specs.Plans.{parties_no}
 use Rattle.protocol.specs.Promise.{KeepsTheRules}
 use Rattle.orders.specs.declared.fault.ReadFault.{ReadFault}
 use Rattle.orders.specs.declared.order.Order.{Order}
@@ -29,10 +30,6 @@ waits_of TwoPhase tmin tmax = phases 63 tmin tmax
 -- the pace that a file asks for, under its cap
 abbrev pub pace_of : Start → Meaning
 pace_of s = capped s.cap (record { tmin = s.tmin; tmax = s.tmax; waits = waits_of s.pace s.tmin s.tmax })
-
--- 5: is the number of parties 1 to 32?
-abbrev pub parties_no : ℕ → ℕ
-parties_no n = cond (nat_le 1 n && nat_le n 32) 0 5
 
 -- the number of a question, or where it is answered yes what the later ones come to
 abbrev pub or_else : ℕ → ℕ → ℕ

@@ -318,15 +318,17 @@ module _ (c : ℕ) where
   heeds_turn Running parting i lo log p = stays i lo log 2 p
   heeds_turn (Down how at) parting i lo log p = stays i lo log 2 p
 
-  follows_turn : (x y : Bool) (r : Root) (b : Beat) (i : ℕ) (p : Party) (log : List Happening) →
-      let off = cond x (off_out p) (cond y (off_reply p) (off_entry p)) in
+  follows_turn : (x y z : Bool) (r : Root) (b : Beat) (i : ℕ) (p : Party) (log : List Happening) →
+      let off = cond x (off_out p) (cond y (off_reply p) (cond z (off_entry p) p)) in
       Turned 2 i (length (links c (cond x i 0) Arrived b.place log))
       (cond x
       (cond (live p.own.standing) (tells_of c i Sent (links c i Arrived b.place log)) (links c i Arrived b.place log))
       (cond (runs r) (answer_log p.note.roll b.parting c i (links c 0 Arrived b.place log)) (links c 0 Arrived b.place log)))
-      off (cond x (hears_as p.own.standing c (length log + 1) b.last (off_out p)) (heeds r b.parting off))
-  follows_turn true y r b i p log = hears_turn p.own.standing i b.place b.last (off_out p) log
-  follows_turn false y r b i p log = heeds_turn r b.parting i _ _ (cond y (off_reply p) (off_entry p))
+      off (cond x (hears_as p.own.standing c (length log + 1) b.last (off_out p)) (cond y (heeds r b.parting (off_reply p)) (cond z (heeds r b.parting (off_entry p)) p)))
+  follows_turn true y z r b i p log = hears_turn p.own.standing i b.place b.last (off_out p) log
+  follows_turn false true z r b i p log = heeds_turn r b.parting i _ _ (off_reply p)
+  follows_turn false false true r b i p log = heeds_turn r b.parting i _ _ (off_entry p)
+  follows_turn false false false r b i p log = stays i _ _ 2 p
 
 module _ (o : Moment) (n : ℕ) where
   abbrev Holds : Play → Type 0
@@ -365,7 +367,7 @@ module _ (o : Moment) (n : ℕ) where
       let arrival = settles_it o n c i leg b h s.table.parties s.log lo hi t e refl refl
       (λ _. (cond x 0 i, held_at s i leg b lo hi t e, ends_of x i lo hi)) (λ is. absurd (grind arith)) in (
         turns_two o n c 2 i (off_leg leg p) (arrives c r leg b (length s.log + 1) p) s.table.parties (links c (cond x i 0) Arrived b.place s.log) _ lo hi w arrival
-            (follows_turn c x (eqb leg 2) r b i p s.log),
+            (follows_turn c x (eqb leg 2) (eqb leg 3) r b i p s.log),
         w.same ∙ arrived s.log c (cond x i 0) b.place,
       )
 

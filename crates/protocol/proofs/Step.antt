@@ -91,7 +91,7 @@ module _ (m : Terms) (kind : GroupKind) (law : LawfulTerms m kind) (q : Bool) (c
   arrive_as :
       (x y z : Bool) (r' : Root) (b : Beat) (place : ℕ) → r ≡ r' →
       cond x p.legs.out (cond y p.legs.reply (cond z p.legs.entry None)) ≡ Some b →
-      Keeps (cond x (hears_as p.own.standing c place b.last (off_out p)) (heeds r' b.parting (cond x (off_out p) (cond y (off_reply p) (off_entry p)))))
+      Keeps (cond x (hears_as p.own.standing c place b.last (off_out p)) (cond y (heeds r' b.parting (off_reply p)) (cond z (heeds r' b.parting (off_entry p)) p)))
   arrive_as true y z r' b place e f = hear place b f
   arrive_as false true z Running b place e f = answer b f e
   arrive_as false true z (Down how at) b place e f = ignore_reply how at e
@@ -102,16 +102,17 @@ module _ (m : Terms) (kind : GroupKind) (law : LawfulTerms m kind) (q : Bool) (c
   pub arrive : (leg : ℕ) (b : Beat) (place : ℕ) → on_leg leg p ≡ Some b → Keeps (arrives c r leg b place p)
   arrive leg b place e = arrive_as (eqb leg 1) (eqb leg 2) (eqb leg 3) r b place refl e
 
-  drop_as : (x y : Bool) → Survives (cond x (off_out p) (cond y (off_reply p) (off_entry p)))
-  drop_as true y = drop_out
-  drop_as false true = drop_reply
-  drop_as false false = drop_entry
-
-  pub lose : (leg : ℕ) → Survives (off_leg leg p)
-  lose leg = drop_as (eqb leg 1) (eqb leg 2)
-
   pub elsewhere : Survives p
   elsewhere = grind (arith, nat_tests)
+
+  drop_as : (x y z : Bool) → Survives (cond x (off_out p) (cond y (off_reply p) (cond z (off_entry p) p)))
+  drop_as true y z = drop_out
+  drop_as false true z = drop_reply
+  drop_as false false true = drop_entry
+  drop_as false false false = elsewhere
+
+  pub lose : (leg : ℕ) → Survives (off_leg leg p)
+  lose leg = drop_as (eqb leg 1) (eqb leg 2) (eqb leg 3)
 
   pub root_crashes : r ≡ Running → Kept m kind false c (Down RootCrashed c) a l p
   root_crashes up = grind (arith, nat_tests)

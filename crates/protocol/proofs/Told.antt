@@ -22,7 +22,7 @@ use Rattle.protocol.specs.declared.call.Call.{Call}
 use Rattle.protocol.specs.declared.call.Call.TheVariants.{Tick, Deliver, Lose, Crash, Join, Leave}
 use Rattle.protocol.specs.Patience.{trip, patience}
 use Rattle.protocol.specs.Walk.{folds, walks}
-use Rattle.protocol.specs.Party.{nobody, fresh, on_leg, off_leg, off_out, arrives, hears_as, heeds, answers, joined, now_leaving, crashes, missed, sends, on_roll, missed_all, times, times_as, times_live, calls_in, live}
+use Rattle.protocol.specs.Party.{nobody, fresh, on_leg, off_leg, off_out, off_reply, off_entry, arrives, hears_as, heeds, answers, joined, now_leaving, crashes, missed, sends, on_roll, missed_all, times, times_as, times_live, calls_in, live}
 use Rattle.protocol.specs.Group.{Play, the, happens, tells_of, links, sender, answer_log, arrival_log, runs, delivered_as, lost_as, crashed, root_crashed, joins, leaves, any, shortest, counted, send_log, sent, started, settled_as, rounded_as, rounded, round_ends, live_word, tells_if, timer_log, timed, opened}
 use Rattle.protocol.specs.Runs.{asks, can_crash, number, done, unless, perform, played}
 use Rattle.protocol.specs.Told.{read, Account, account_of, first_account, tells_as, told_of, root_as, root_told, TellsTheGroup, RunsTellTheirGroup}
@@ -156,22 +156,23 @@ module _ (kind : GroupKind) (n i : ℕ) (lo : 1 ≤ i) (hi : i ≤ n) where
       let e = other log (happens c 0 Arrived b.place) (λ z. absurd (omega arith)) in
       conds (runs r) _ _ _ (answer_there p.note.roll b.parting c j _ h ∙ e) e
 
-  arrival_here : (x : Bool) (r : Root) (leg : ℕ) (b : Beat) (c place j : ℕ) (p : Party) (log : List Happening) → j ≡ i → T log ≡ account_of p →
+  -- of a beat on leg 1 (x), 2 (y) or 3 (z)
+  arrival_here : (x y z : Bool) (r : Root) (b : Beat) (c place j : ℕ) (p : Party) (log : List Happening) → j ≡ i →
+      cond x p.legs.out (cond y p.legs.reply (cond z p.legs.entry None)) ≡ Some b → T log ≡ account_of p →
       T (cond x
       (cond (live p.own.standing) (tells_of c j Sent (links c j Arrived b.place log)) (links c j Arrived b.place log))
       (cond (runs r) (answer_log p.note.roll b.parting c j (links c 0 Arrived b.place log)) (links c 0 Arrived b.place log)))
-      ≡ account_of (cond x (hears_as p.own.standing c place b.last (off_out p)) (heeds r b.parting (off_leg leg p)))
-  arrival_here true r leg b c place j p log h e =
+      ≡ account_of (cond x (hears_as p.own.standing c place b.last (off_out p))
+      (cond y (heeds r b.parting (off_reply p)) (cond z (heeds r b.parting (off_entry p)) p)))
+  arrival_here true y z r b c place j p log h held e =
       let f : T (links c j Arrived b.place log) ≡ account_of (hears_as p.own.standing c place b.last (off_out p)) =
       mine log (happens c j Arrived b.place) h ∙ ap (tells_as Arrived c) e ∙ sym (hears_told p.own.standing c place b.last (off_out p) refl) in
       conds (live p.own.standing) _ _ _ (idle (links c j Arrived b.place log) _ (λ a. refl) ∙ f) f
-  arrival_here false r leg b c place j p log h e =
-      let q = off_leg leg p in
-      let f : T (links c 0 Arrived b.place log) ≡ account_of q =
-      other log (happens c 0 Arrived b.place) (λ z. absurd (omega arith)) ∙ e ∙ sym (off_told leg p) in
-      let roll : p.note.roll ≡ q.note.roll = ap (λ (a : Account). a.roll) (sym (off_told leg p)) in
-      ap (λ y. T (cond (runs r) (answer_log y b.parting c j (links c 0 Arrived b.place log)) (links c 0 Arrived b.place log))) roll
-      ∙ heed_here r b.parting c j (links c 0 Arrived b.place log) q h f
+  arrival_here false true z r b c place j p log h held e =
+      heed_here r b.parting c j (links c 0 Arrived b.place log) (off_reply p) h (other log (happens c 0 Arrived b.place) (λ z. absurd (omega arith)) ∙ e)
+  arrival_here false false true r b c place j p log h held e =
+      heed_here r b.parting c j (links c 0 Arrived b.place log) (off_entry p) h (other log (happens c 0 Arrived b.place) (λ z. absurd (omega arith)) ∙ e)
+  arrival_here false false false r b c place j p log h held e = absurd (grind arith)
 
   abbrev Tells : Play → Type 0
   Tells s = T s.log ≡ account_of (the i s.table)
@@ -179,13 +180,13 @@ module _ (kind : GroupKind) (n i : ℕ) (lo : 1 ≤ i) (hi : i ≤ n) where
   abbrev Long : Play → Type 0
   Long s = n ≤ length s.table.parties
 
-  delivers : (o : Option Beat) (j leg : ℕ) (s : Play) → 1 ≤ j → Long s → Tells s → Tells (delivered_as o j leg s)
-  delivers None j leg s low long e = e
-  delivers (Some b) j leg s low long e =
+  delivers : (o : Option Beat) (j leg : ℕ) (s : Play) → on_leg leg (the j s.table) ≡ o → 1 ≤ j → Long s → Tells s → Tells (delivered_as o j leg s)
+  delivers None j leg s held low long e = e
+  delivers (Some b) j leg s held low long e =
       let t = s.table in
       changes j (arrives t.clock t.root leg b (length s.log + 1) (the j t)) t.parties s.log
       (arrival_log t.clock t.root leg b j (the j t) s.log) low long e
-      (λ here f. arrival_here (eqb leg 1) t.root leg b t.clock _ j (the j t) s.log here f)
+      (λ here f. arrival_here (eqb leg 1) (eqb leg 2) (eqb leg 3) t.root b t.clock _ j (the j t) s.log here held f)
       (λ there. arrival_there (eqb leg 1) t.root b t.clock j (the j t) s.log there)
 
   -- lose, crash, join, leave
@@ -442,7 +443,7 @@ module _ (m : Meaning) (plan : Plan) (room : ℕ) where
     does_party Tick s z long e =
         timers plan.kind plan.n i lo hi (patience m plan.kind) m.tmin (trip m) (rounded m plan.n s) (rounds_long (round_ends s.table) s long)
         (rounds plan.kind plan.n i lo hi (round_ends s.table) m s long e)
-    does_party (Deliver j leg) s z long e = delivers plan.kind plan.n i lo hi (on_leg leg (the j s.table)) j leg s (asked_party plan.n j _ z).0 long e
+    does_party (Deliver j leg) s z long e = delivers plan.kind plan.n i lo hi (on_leg leg (the j s.table)) j leg s refl (asked_party plan.n j _ z).0 long e
     does_party (Lose j leg) s z long e = loses_one plan.kind plan.n i lo hi (on_leg leg (the j s.table)) j leg s (asked_party plan.n j _ z).0 long e
     does_party (Crash j) s z long e = crashes_one plan.kind plan.n i lo hi j s long e
     does_party (Join j) s z long e = joins_one plan.kind plan.n i lo hi m j s (asked_party plan.n j _ z).0 long e

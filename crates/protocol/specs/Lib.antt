@@ -1,4 +1,5 @@
 pub mod Words
+pub mod Texts
 pub mod Kinds
 pub mod Answers
 pub mod Plans

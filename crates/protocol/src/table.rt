@@ -1,5 +1,6 @@
 // All that a group changes.
-ghost use Rattle.std.specs.Prelude.{◌≡◌, take};
+ghost use Rattle.std.specs.Prelude.{◌≡◌, Some, take};
+ghost use Rattle.protocol.specs.Texts.{root_ending_text};
 
 use crate::party::Party;
 use crate::plan::Plan;
@@ -13,6 +14,8 @@ pub enum RootEnding {
 }
 
 impl fmt::Display for RootEnding {
+    ghost output = { λ x. Some (root_ending_text x) };
+
     fn fmt<W: fmt::Write>(&self, f: &mut fmt::Formatter<W>) -> fmt::Result {
         f.write_str(match self {
             RootEnding::Crashed => "crashed",
