@@ -211,6 +211,7 @@ def check_sendings(group):
     settled = sorted(h.link for h in group.log if h.word in ("arrived", "lost"))
     under_way = sorted(beat.sent_at for party in group.parties.values() for beat in party.legs.values() if beat)
     assert sorted(settled + under_way) == [k for k, h in enumerate(group.log) if h.word == "sent"]
+    assert all(h.tick <= group.log[h.link].tick + group.tmin for h in group.log)
 
 
 def told(log, owner, party):

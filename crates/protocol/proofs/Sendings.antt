@@ -194,22 +194,25 @@ module _ (G : ℕ → Type 0) where
       puts p p' 2 d log (happens c j Sent (length log)) (keeps_reply p d free) refl at a
   hear (Ended how e g) c l j place log p free at a = a
 
-  follow : (x y : Bool) (r : Root) (b : Beat) (c j : ℕ) (p : Party) (log : List Happening) → (x ≡ true → p.legs.reply ≡ None) →
-      let off = cond x (off_out p) (cond y (off_reply p) (off_entry p)) in
-      Beside (links c (cond x j 0) Arrived b.place log) off →
+  -- of a beat on leg 1 (x), 2 (y) or 3 (z)
+  follow : (x y z : Bool) (r : Root) (b : Beat) (c j : ℕ) (p : Party) (log : List Happening) → (x ≡ true → p.legs.reply ≡ None) →
+      cond x p.legs.out (cond y p.legs.reply (cond z p.legs.entry None)) ≡ Some b →
+      Beside (links c (cond x j 0) Arrived b.place log) (cond x (off_out p) (cond y (off_reply p) (cond z (off_entry p) p))) →
       Beside (cond x
       (cond (live p.own.standing) (tells_of c j Sent (links c j Arrived b.place log)) (links c j Arrived b.place log))
       (cond (runs r) (answer_log p.note.roll b.parting c j (links c 0 Arrived b.place log)) (links c 0 Arrived b.place log)))
-      (cond x (hears_as p.own.standing c (length log + 1) b.last (off_out p)) (heeds r b.parting off))
-  follow true y r b c j p log free a =
+      (cond x (hears_as p.own.standing c (length log + 1) b.last (off_out p))
+      (cond y (heeds r b.parting (off_reply p)) (cond z (heeds r b.parting (off_entry p)) p)))
+  follow true y z r b c j p log free held a =
       hear p.own.standing c b.last j (length log + 1) (links c j Arrived b.place log) (off_out p) (free refl) (sym (length_push log (happens c j Arrived b.place))) a
-  follow false y r b c j p log free a =
-      heed r p.note.roll b.parting c j (links c 0 Arrived b.place log) (cond y (off_reply p) (off_entry p)) a
+  follow false true z r b c j p log free held a = heed r p.note.roll b.parting c j (links c 0 Arrived b.place log) (off_reply p) a
+  follow false false true r b c j p log free held a = heed r p.note.roll b.parting c j (links c 0 Arrived b.place log) (off_entry p) a
+  follow false false false r b c j p log free held a = absurd (grind arith)
 
   arrive : (leg : ℕ) (r : Root) (b : Beat) (c j : ℕ) (p : Party) (log : List Happening) → on_leg leg p ≡ Some b → (leg ≡ 1 → p.legs.reply ≡ None) →
       Beside log p → Beside (arrival_log c r leg b j p log) (arrives c r leg b (length log + 1) p)
   arrive leg r b c j p log held free a =
-      follow (eqb leg 1) (eqb leg 2) r b c j p log (λ is. free (grind (arith, nat_tests)))
+      follow (eqb leg 1) (eqb leg 2) (eqb leg 3) r b c j p log (λ is. free (grind (arith, nat_tests))) held
       (takes leg p b log (happens c (cond (eqb leg 1) j 0) Arrived b.place) held refl (λ is. absurd (grind arith)) refl a)
 
   -- a turn of the root's sending, and of a party's timer

@@ -156,33 +156,23 @@ module _ (kind : GroupKind) (n i : ℕ) (lo : 1 ≤ i) (hi : i ≤ n) where
       let e = other log (happens c 0 Arrived b.place) (λ z. absurd (omega arith)) in
       conds (runs r) _ _ _ (answer_there p.note.roll b.parting c j _ h ∙ e) e
 
-  -- at the root, once the beat is off its leg
-  arrival_at_root : (r : Root) (b : Beat) (c j : ℕ) (p q : Party) (log : List Happening) → j ≡ i → T log ≡ account_of p → account_of q ≡ account_of p →
-      T (cond (runs r) (answer_log p.note.roll b.parting c j (links c 0 Arrived b.place log)) (links c 0 Arrived b.place log)) ≡ account_of (heeds r b.parting q)
-  arrival_at_root r b c j p q log h e off =
-      let f : T (links c 0 Arrived b.place log) ≡ account_of q =
-      other log (happens c 0 Arrived b.place) (λ z. absurd (omega arith)) ∙ e ∙ sym off in
-      let roll : p.note.roll ≡ q.note.roll = ap (λ (a : Account). a.roll) (sym off) in
-      ap (λ y. T (cond (runs r) (answer_log y b.parting c j (links c 0 Arrived b.place log)) (links c 0 Arrived b.place log))) roll
-      ∙ heed_here r b.parting c j (links c 0 Arrived b.place log) q h f
-
-  -- the leg is 1, 2 or 3, since the beat stood on it
-  arrival_here :
-      (x y z : Bool) (r : Root) (b : Beat) (c place j : ℕ) (p : Party) (log : List Happening) →
-      cond x p.legs.out (cond y p.legs.reply (cond z p.legs.entry None)) ≡ Some b → j ≡ i → T log ≡ account_of p →
+  -- of a beat on leg 1 (x), 2 (y) or 3 (z)
+  arrival_here : (x y z : Bool) (r : Root) (b : Beat) (c place j : ℕ) (p : Party) (log : List Happening) → j ≡ i →
+      cond x p.legs.out (cond y p.legs.reply (cond z p.legs.entry None)) ≡ Some b → T log ≡ account_of p →
       T (cond x
       (cond (live p.own.standing) (tells_of c j Sent (links c j Arrived b.place log)) (links c j Arrived b.place log))
       (cond (runs r) (answer_log p.note.roll b.parting c j (links c 0 Arrived b.place log)) (links c 0 Arrived b.place log)))
-      ≡ account_of
-      (cond x (hears_as p.own.standing c place b.last (off_out p))
+      ≡ account_of (cond x (hears_as p.own.standing c place b.last (off_out p))
       (cond y (heeds r b.parting (off_reply p)) (cond z (heeds r b.parting (off_entry p)) p)))
-  arrival_here true y z r b c place j p log stood h e =
+  arrival_here true y z r b c place j p log h held e =
       let f : T (links c j Arrived b.place log) ≡ account_of (hears_as p.own.standing c place b.last (off_out p)) =
       mine log (happens c j Arrived b.place) h ∙ ap (tells_as Arrived c) e ∙ sym (hears_told p.own.standing c place b.last (off_out p) refl) in
       conds (live p.own.standing) _ _ _ (idle (links c j Arrived b.place log) _ (λ a. refl) ∙ f) f
-  arrival_here false true z r b c place j p log stood h e = arrival_at_root r b c j p (off_reply p) log h e refl
-  arrival_here false false true r b c place j p log stood h e = arrival_at_root r b c j p (off_entry p) log h e refl
-  arrival_here false false false r b c place j p log stood h e = absurd (grind arith)
+  arrival_here false true z r b c place j p log h held e =
+      heed_here r b.parting c j (links c 0 Arrived b.place log) (off_reply p) h (other log (happens c 0 Arrived b.place) (λ z. absurd (omega arith)) ∙ e)
+  arrival_here false false true r b c place j p log h held e =
+      heed_here r b.parting c j (links c 0 Arrived b.place log) (off_entry p) h (other log (happens c 0 Arrived b.place) (λ z. absurd (omega arith)) ∙ e)
+  arrival_here false false false r b c place j p log h held e = absurd (grind arith)
 
   abbrev Tells : Play → Type 0
   Tells s = T s.log ≡ account_of (the i s.table)
@@ -191,12 +181,12 @@ module _ (kind : GroupKind) (n i : ℕ) (lo : 1 ≤ i) (hi : i ≤ n) where
   Long s = n ≤ length s.table.parties
 
   delivers : (o : Option Beat) (j leg : ℕ) (s : Play) → on_leg leg (the j s.table) ≡ o → 1 ≤ j → Long s → Tells s → Tells (delivered_as o j leg s)
-  delivers None j leg s stood low long e = e
-  delivers (Some b) j leg s stood low long e =
+  delivers None j leg s held low long e = e
+  delivers (Some b) j leg s held low long e =
       let t = s.table in
       changes j (arrives t.clock t.root leg b (length s.log + 1) (the j t)) t.parties s.log
       (arrival_log t.clock t.root leg b j (the j t) s.log) low long e
-      (λ here f. arrival_here (eqb leg 1) (eqb leg 2) (eqb leg 3) t.root b t.clock _ j (the j t) s.log stood here f)
+      (λ here f. arrival_here (eqb leg 1) (eqb leg 2) (eqb leg 3) t.root b t.clock _ j (the j t) s.log here held f)
       (λ there. arrival_there (eqb leg 1) t.root b t.clock j (the j t) s.log there)
 
   -- lose, crash, join, leave
