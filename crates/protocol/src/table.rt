@@ -2,10 +2,9 @@
 ghost use Rattle.std.specs.Prelude.{◌≡◌, Some, take};
 ghost use Rattle.protocol.specs.Texts.{root_ending_text};
 
-use std::fmt;
-
 use crate::party::Party;
 use crate::plan::Plan;
+use std::fmt;
 
 // How the root has ended; it never leaves.
 #[derive(Clone, Copy, Debug, PartialEq, Eq)]
