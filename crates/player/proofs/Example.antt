@@ -29,5 +29,7 @@ by_hand = record {
   cut = refl;
   stopped = rw (seven, eleven) refl;
   cut_and_stopped = rw (forty, twelve) refl;
+  cut_bytes = refl;
+  cut_length = refl;
   not_played = rw (twenty_three, fifteen) refl;
 }
