@@ -1,9 +1,8 @@
-"""A copy of the crates with their types and definitions alone: no function, so that the worked examples can be computed from definitions that
-no code meets any longer."""
+"""A copy of the crates with their types and definitions alone, as the modules of one crate: no function, so that the worked examples can be computed
+from definitions that no code meets any longer."""
 
 import pathlib
 import re
-import shutil
 
 # the crates whose definitions the worked examples read, and the crate of the examples
 CRATES = ["pace", "slots", "protocol", "text", "graphml", "orders", "player", "handplayed"]
@@ -56,28 +55,40 @@ def bare(text):
             kept.append(item)
         elif use[1] in CRATES + ["std", "crate", "self", "super"]:
             kept.append(item if code.startswith("ghost ") else only_types(item))
-    return "".join(item for item in kept if types or not re.match(r"(?:ghost )?use ", first_code(item)))
+    left = "".join(item for item in kept if types or not re.match(r"(?:ghost )?use ", first_code(item)))
+    return re.sub(r"(?m)^ *#\[(?:derive\(.*\)|default)\]\n", "", left)
 
 
-def copy(crates, work, crate):
-    """The bare copy of a crate."""
-    source, target = crates / crate, work / "crates" / crate
-    shutil.copytree(source / "specs", target / "specs")
-    for path in (source / "src").rglob("*.rt"):
-        to = target / "src" / path.relative_to(source / "src")
-        to.parent.mkdir(parents=True, exist_ok=True)
-        to.write_text(path.read_text() if crate == "handplayed" else bare(path.read_text()))
+def in_one(text, crate):
+    """The names of a file of a crate, as they are where each crate is a module of one."""
+    crates = "|".join(CRATES)
+    text = re.sub(rf"\bRattle\.({crates})\.specs\.declared\.", r"Rattle.bare.specs.declared.\1.", text)
+    text = re.sub(rf"\bRattle\.({crates})\.(specs|proofs)\.", r"Rattle.bare.\2.\1.", text)
+    text = re.sub(r"\bcrate::", f"crate::{crate}::", text)
+    return re.sub(rf"(?m)^((?:pub )?use )({crates})::", r"\1crate::\2::", text).replace("#![tactic(auto)]\n", "")
+
+
+def place(work, file):
+    """Where a file goes that is named from crates/ on: a crate's root file is that of its module."""
+    crate, folder, path = file.split("/", 2)
+    at = work / "crates/bare" / folder
+    return at / f"{crate}{pathlib.Path(path).suffix}" if path in ("lib.rt", "Lib.antt") else at / crate / path
+
+
+def put(work, file, text):
+    crate = file.split("/")[0]
+    to = place(work, file)
+    to.parent.mkdir(parents=True, exist_ok=True)
+    to.write_text(in_one(bare(text) if file.endswith(".rt") and crate != "handplayed" else text, crate))
 
 
 def make(crates, work):
-    rows = dict(line.split(":") for line in (crates.parent / "crates.txt").read_text().splitlines() if line and line[0] != "#")
+    """One crate, of which each crate is a module, with the table's fact."""
     for crate in CRATES:
-        copy(crates, work, crate)
-    shutil.copytree(crates / "handplayed" / "proofs", work / "crates/handplayed/proofs")
-    below = {crate: [it for it in rows[crate].split() if it in CRATES] for crate in CRATES}
-    (work / "crates.txt").write_text("".join(f"{crate}: {' '.join(below[crate])}\n" for crate in CRATES))
-
-
-if __name__ == "__main__":
-    import sys
-    make(pathlib.Path(sys.argv[1]), pathlib.Path(sys.argv[2]))
+        for path in [*(crates / crate / "specs").rglob("*.antt"), *(crates / crate / "src").rglob("*.rt")]:
+            if crate != "handplayed" or path.suffix == ".antt" or path.name in ("lib.rt", "worked.rt"):
+                put(work, str(path.relative_to(crates)), re.sub(r"#\[cfg\(test\)\]\nmod \w+;\n", "", path.read_text()))
+    modules = "".join(f"pub mod {crate};\n" for crate in CRATES)
+    (work / "crates/bare/src/lib.rt").write_text(f"#![tactic(auto)]\n\n{modules}")
+    (work / "crates/bare/specs/Lib.antt").write_text(modules.replace(";", ""))
+    (work / "crates.txt").write_text("bare:\n")

@@ -91,16 +91,16 @@ def failing(work, crates, entry):
     texts = {}
     try:
         for path, (_, text) in entry.texts(crates).items():
-            to = work / "crates" / path.relative_to(crates)
+            file = str(path.relative_to(crates))
+            to = bare.place(work, file)
             if to.exists():
                 texts[to] = to.read_text()
-                to.write_text(text if to.suffix == ".antt" else bare.bare(text))
-        status, said = check(work, "handplayed")
+                bare.put(work, file, text)
+        status, said = check(work, "bare")
     finally:
         for path, text in texts.items():
             path.write_text(text)
-    errors = re.findall(r"^\S*?(?:(\w+)/)?(\w+/\w+/\w+|specs/\w+|proofs/\S+)\.(?:antt|rt):\d+:\d+: error: `([^`]+)`(.*)", said, re.M)
-    rows = [name for _, file, name, _ in errors if file.endswith("Answers") and name != "returns"]
+    rows = [name for name in re.findall(r"(?m)^\S*/Answers\.antt:\d+:\d+: error: `([^`]+)`", said) if name != "returns"]
     others = [line for line in re.findall(r"^.*error.*$", said, re.M) if "/Answers.antt" not in line]
     if others or (status and not rows) or not edited:
         return None, (others + said.splitlines()[-3:])[0][:300]
@@ -141,7 +141,7 @@ def main(words):
     with tempfile.TemporaryDirectory(prefix="both-") as folder:
         work, whole = pathlib.Path(folder, "bare"), pathlib.Path(folder, "whole")
         bare.make(crates, work)
-        (work / "crates" / PROOF).write_text(probes((crates / TABLE).read_text(), (crates / PROOF).read_text()))
+        bare.put(work, PROOF, probes((crates / TABLE).read_text(), (crates / PROOF).read_text()))
         if with_code:
             whole.mkdir()
             plant.copy(TOP, whole)

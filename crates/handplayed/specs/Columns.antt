@@ -4,7 +4,7 @@ use Rattle.pace.specs.Meaning.{Meaning}
 use Rattle.pace.specs.Questions.{limits_no, count_no, waits_no}
 use Rattle.slots.specs.declared.refusal.Refusal.{Refusal as ListRefusal}
 use Rattle.slots.specs.Refusals.{number as list_number}
-use Rattle.slots.specs.Slots.{append_answer}
+use Rattle.slots.specs.Slots.{append_answer, first_place}
 use Rattle.protocol.specs.declared.call.Call.{Call}
 use Rattle.protocol.specs.declared.happening.Happening.{Happening}
 use Rattle.protocol.specs.declared.kind.GroupKind.{GroupKind}
@@ -58,8 +58,10 @@ pub data Given : Type 0 where
   writing : Start → List Order → Given
   -- what came of a file, to be told
   notice : Result PlayedFile RefusedFile → Given
-  -- a record of that time for a list that has records of those times, and so many spare slots
+  -- a record of that tick for a list that has records of those ticks, and so many spare slots
   append : List ℕ → ℕ → ℕ → Given
+  -- a tick by which a list with records of those ticks is searched
+  find : List ℕ → ℕ → Given
 
 -- what comes of it; a column that has nothing to tell is empty
 pub record Outcome : Type 0 where
@@ -82,6 +84,8 @@ pub record Outcome : Type 0 where
   -- what a file reads as
   pub start : Option Start
   pub orders : List Order
+  -- the place that a list gives
+  pub found : Option ℕ
 
 -- nothing to tell
 abbrev pub nothing : Outcome
@@ -100,6 +104,7 @@ nothing = record {
   output = [];
   start = None;
   orders = [];
+  found = None;
 }
 
 abbrev pub answers_with : ℕ → Outcome
@@ -160,4 +165,5 @@ outcome (orders g os) = of_orders (of_pace g.plan.kind g.pace) g.plan.n (plays g
 outcome (reading bs room) = let x = loaded bs [] (replicate room no_order) in of_reading x.answer x.items
 outcome (writing s os) = record nothing { output = bytes_of_file s os }
 outcome (notice x) = record nothing { output = notice_lines x }
-outcome (append times t room) = answers_with (append_number (append_answer (λ time. time) times (replicate room 0) t))
+outcome (append ticks t room) = answers_with (append_number (append_answer (λ tick. tick) ticks (replicate room 0) t))
+outcome (find ticks t) = record nothing { found = first_place (λ tick. tick) t ticks }

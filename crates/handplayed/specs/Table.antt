@@ -1,5 +1,5 @@
 -- Examples worked by hand from the rules alone: one table.
-use Rattle.std.specs.Prelude.{◌≡◌, ℕ, true, false, List, [], ◌∷◌, ◌++◌, map, replicate, Some, Ok, Err, codes}
+use Rattle.std.specs.Prelude.{◌≡◌, ℕ, true, false, List, [], ◌∷◌, ◌++◌, map, replicate, Some, None, Ok, Err, codes}
 use Rattle.pace.specs.Waits.{capped}
 use Rattle.protocol.specs.declared.call.Call.{Call}
 use Rattle.protocol.specs.declared.call.Call.TheVariants.{Tick, Deliver, Lose, Crash, Join, Leave}
@@ -15,7 +15,7 @@ use Rattle.orders.specs.declared.order.OrderKind.TheVariants.{Deliver as ToDeliv
 use Rattle.orders.specs.declared.start.PaceKind.TheVariants.{Halving, TwoPhase}
 use Rattle.orders.specs.declared.start.Start.{Start}
 use Rattle.player.specs.declared.play.PlayFault.TheVariants.{Refused}
-use Rattle.handplayed.specs.Columns.{Given, Outcome, nothing, outcome, limits, waits, cap, parties, pace, calls, export, orders, reading, writing, notice, append}
+use Rattle.handplayed.specs.Columns.{Given, Outcome, nothing, outcome, limits, waits, cap, parties, pace, calls, export, orders, reading, writing, notice, append, find}
 use Rattle.handplayed.specs.Groups.{halves, two_phases, lists, one, two, root_stopped, root_crashed, new, struck, with_beat, beside, record_at, ticks, party_crashes, root_crashes, tick_waits, joining_lost, joiner_hears, leaves, miss_in_turn, wrong_calls}
 use Rattle.handplayed.specs.Texts.{text, empty_file, empty_file_cut, waiting_file, waiting_file_cut, leaving_file}
 
@@ -291,31 +291,37 @@ questions =
 
 abbrev pub files : List Example
 files =
+    -- an empty log: whole in 419
     example (export (new (halves 1 10) (one Closed)) [] 419)
     record nothing {
       answers = 0 ∷ [];
       answer = Some (record { bytes = 419; happenings = 0; edges = 0; whole = true });
       output = empty_file;
     }
+    -- cut at 346 to 298
     ∷ example (export (new (halves 1 10) (one Closed)) [] 346)
     record nothing {
       answers = 0 ∷ [];
       answer = Some (record { bytes = 298; happenings = 0; edges = 0; whole = false });
       output = empty_file_cut ++ replicate 48 46;
     }
+    -- no room for the frame
     ∷ example (export (new (halves 1 10) (one Closed)) [] 274) record nothing { answers = 17 ∷ []; output = replicate 274 46 }
+    -- a party that joins, hears and leaves, whole
     ∷ example (export (new (halves 2 4) (one Dynamic)) leaves 2000)
     record nothing {
       answers = 0 ∷ [];
       answer = Some (record { bytes = 1968; happenings = 19; edges = 6; whole = true });
       output = leaving_file ++ replicate 32 46;
     }
+    -- one byte short of the whole: the last edge is left out
     ∷ example (export (new (halves 1 1) (one Closed)) tick_waits 833)
     record nothing {
       answers = 0 ∷ [];
       answer = Some (record { bytes = 802; happenings = 5; edges = 1; whole = false });
       output = waiting_file ++ replicate 31 46;
     }
+    -- the second happening does not fit, and so the third is left out that would
     ∷ example (export (new (halves 1 1) (one Closed)) tick_waits 487)
     record nothing {
       answers = 0 ∷ [];
@@ -422,8 +428,16 @@ appends =
     ∷ example (append [] 0 1) (number 0)
     ∷ []
 
+abbrev pub finds : List Example
+finds =
+    example (find (3 ∷ 5 ∷ 5 ∷ 7 ∷ []) 5) record nothing { found = Some 1 }
+    ∷ example (find (3 ∷ 5 ∷ 5 ∷ 7 ∷ []) 4) record nothing { found = Some 1 }
+    ∷ example (find (3 ∷ 5 ∷ 5 ∷ 7 ∷ []) 0) record nothing { found = Some 0 }
+    ∷ example (find (3 ∷ 5 ∷ 5 ∷ 7 ∷ []) 8) (record nothing { found = None })
+    ∷ []
+
 abbrev pub table : List Example
-table = set_ups ++ (paces ++ (runs ++ (questions ++ (files ++ (playings ++ (order_files ++ (notices ++ appends)))))))
+table = set_ups ++ (paces ++ (runs ++ (questions ++ (files ++ (playings ++ (order_files ++ (notices ++ (appends ++ finds))))))))
 
 -- of each example comes what should
 abbrev pub WorkedExamplesStand : Type 0

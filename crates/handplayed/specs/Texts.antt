@@ -35,7 +35,7 @@ empty_file =
 abbrev pub empty_file_cut : List ℕ
 empty_file_cut = framed (codes "<node id=\"p0\">" ∷ codes "</node>" ∷ [])
 
--- of the run in which a tick waits: party 0 with its first happening, and the others, and the parties' edges
+-- of the run in which a tick waits: party 0 with its first happening
 abbrev pub waiting_first : List (List ℕ)
 waiting_first =
     codes "<node id=\"p0\">"
@@ -43,11 +43,11 @@ waiting_first =
     ∷ codes "<node id=\"h0\"><data key=\"t\">1</data><data key=\"k\">sent</data></node>"
     ∷ []
 
--- cut in an output of 487: the second happening does not fit, and so the third is not written that would
+-- its 416 bytes in an output of 487
 abbrev pub waiting_file_cut : List ℕ
 waiting_file_cut = framed (waiting_first ++ (codes "</graph>" ∷ codes "</node>" ∷ []))
 
--- cut in an output of 833, one byte short of the whole: all but the second edge
+-- its 802 bytes in an output of 833: all but the second edge
 abbrev pub waiting_file : List ℕ
 waiting_file =
     framed
