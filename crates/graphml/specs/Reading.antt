@@ -58,8 +58,12 @@ kind_named t =
     (if bytes_eq t (codes "joining") then Some Joining else
     (if bytes_eq t (codes "leaving") then Some Leaving else None)))))))))
 
+-- what is read of an element, by its name, its attributes and what is inside it
+abbrev pub Reader : Type 0 → Type 0
+Reader A = List ℕ → List Attribute → Content → List A
+
 -- what f reads of each element that stands right in c, in file order
-abbrev pub each_in : {A : Type 0} → (List ℕ → List Attribute → Content → List A) → Content → List A
+abbrev pub each_in : {A : Type 0} → Reader A → Content → List A
 each_in f empty = []
 each_in f (words c t) = each_in f c
 each_in f (element c n xs inside) = each_in f c ++ f n xs inside
@@ -75,7 +79,7 @@ sole_text (t ∷ []) = t
 sole_text _ = []
 
 -- the text of a datum of that key
-abbrev pub datum_text : List ℕ → List ℕ → List Attribute → Content → List (List ℕ)
+abbrev pub datum_text : List ℕ → Reader (List ℕ)
 datum_text k n xs inside =
     if bytes_eq n (codes "data") && bytes_eq (value_at (codes "key") xs) k then text_in inside ∷ [] else []
 
@@ -108,16 +112,16 @@ abbrev pub is_inner_graph : (id : List ℕ) → List ℕ → List Attribute → 
 is_inner_graph id n xs = bytes_eq n (codes "graph") && bytes_eq (id_of xs) (id ++ codes ":") && is_directed xs
 
 -- right in party i's inner graph: its happenings, and nothing else
-abbrev pub graph_item : Option ℕ → List ℕ → List Attribute → Content → List (Option Item)
+abbrev pub graph_item : Option ℕ → Reader (Option Item)
 graph_item i n xs inside = (if bytes_eq n (codes "node") then happening_told i xs inside else None) ∷ []
 
 -- right in the node of that id: its inner graph, and nothing else
-abbrev pub node_items : List ℕ → List ℕ → List Attribute → Content → List (Option Item)
+abbrev pub node_items : (id : List ℕ) → Reader (Option Item)
 node_items id n xs inside =
     if is_inner_graph id n xs then each_in (graph_item (party_named id)) inside else None ∷ []
 
 -- right in the graph of the whole: the parties' nodes and the edges, and nothing else
-abbrev pub run_items : List ℕ → List Attribute → Content → List (Option Item)
+abbrev pub run_items : Reader (Option Item)
 run_items n xs inside =
     if bytes_eq n (codes "node") then each_in (node_items (id_of xs)) inside
     else ((if bytes_eq n (codes "edge") then edge_told xs else None) ∷ [])
@@ -126,19 +130,17 @@ abbrev pub graphml_space : List ℕ
 graphml_space = codes "http://graphml.graphdrawing.org/xmlns"
 
 -- what f reads of each element right in the outermost, where that is GraphML's
-abbrev pub in_file : {A : Type 0} →
-    (List ℕ → List Attribute → Content → List A) → List ℕ → List Attribute → Content → List A
+abbrev pub in_file : {A : Type 0} → Reader A → Reader A
 in_file f n xs inside =
     if bytes_eq n (codes "graphml") && bytes_eq (value_at (codes "xmlns") xs) graphml_space
     then each_in f inside else []
 
 -- what f reads of each element right in the graph of the whole
-abbrev pub in_run : {A : Type 0} →
-    (List ℕ → List Attribute → Content → List A) → List ℕ → List Attribute → Content → List A
+abbrev pub in_run : {A : Type 0} → Reader A → Reader A
 in_run f n xs inside =
     if bytes_eq n (codes "graph") && bytes_eq (id_of xs) (codes "run") && is_directed xs then each_in f inside else []
 
-abbrev pub in_tree : {A : Type 0} → (List ℕ → List Attribute → Content → List A) → Option Content → List A
+abbrev pub in_tree : {A : Type 0} → Reader A → Option Content → List A
 in_tree f None = []
 in_tree f (Some c) = each_in f c
 
@@ -172,7 +174,7 @@ abbrev pub edges_read : List ℕ → List (Option Edge)
 edges_read bs = flat_map edge_of (items_read bs)
 
 -- whether an element is the inner graph of the node of that id
-abbrev pub inner_graph : (id : List ℕ) → List ℕ → List Attribute → Content → List Bool
+abbrev pub inner_graph : (id : List ℕ) → Reader Bool
 inner_graph id n xs inside = is_inner_graph id n xs ∷ []
 
 -- a party's number, if its node holds its inner graph alone
@@ -180,7 +182,7 @@ abbrev pub party_told : List ℕ → List Bool → Option ℕ
 party_told id (true ∷ []) = party_named id
 party_told id _ = None
 
-abbrev pub party_item : List ℕ → List Attribute → Content → List (Option ℕ)
+abbrev pub party_item : Reader (Option ℕ)
 party_item n xs inside =
     if bytes_eq n (codes "node") then party_told (id_of xs) (each_in (inner_graph (id_of xs)) inside) ∷ [] else []
 
@@ -199,7 +201,7 @@ abbrev pub key : List ℕ → List ℕ → List ℕ → List ℕ → Key
 key id of name type = record { id = id; of = of; name = name; type = type }
 
 -- right in the outermost element: the keys and the graph of the whole, and nothing else
-abbrev pub key_item : List ℕ → List Attribute → Content → List (Option Key)
+abbrev pub key_item : Reader (Option Key)
 key_item n xs inside =
     if bytes_eq n (codes "key")
     then Some (key (id_of xs) (value_at (codes "for") xs)
