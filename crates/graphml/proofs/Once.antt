@@ -6,7 +6,8 @@ use Rattle.std.proofs.lemmas.Bool.{cases_Bool, eqb-false}
 use Rattle.protocol.specs.declared.happening.Happening.{Happening}
 use Rattle.protocol.specs.Beats.{Edge, edge as arc, edges, happening_at, is_arrival, Linked}
 use Rattle.graphml.specs.Reading.{Entry, Item, happened, joined, place_of, places_read}
-use Rattle.graphml.specs.Log.{entry, entries, items_from, items_of, OwnersWithin, times, HasBothEnds, all_read}
+use Rattle.protocol.specs.Order.{OwnedUpTo}
+use Rattle.graphml.specs.Log.{entry, entries, items_from, items_of, times, HasBothEnds, all_read}
 use Rattle.graphml.proofs.Told.{read}
 use Rattle.graphml.proofs.Found.{split_places}
 
@@ -80,7 +81,7 @@ module _ (log : List Happening) (k : ℕ) (here : k < length log) where
       (λ e. let other : owner ≡ i → ⊥ = eqb-false owner i e in rw e (zero-add (times_in k (items_from log (i + 1) m)) ∙ once (i + 1) m (omega arith) (omega arith)))
       (cases_Bool (owner == i))
 
-pub places_once : (n : ℕ) (log : List Happening) → OwnersWithin n log → (k : ℕ) → k < length log → times_in k (items_of n log) ≡ 1
+pub places_once : (n : ℕ) (log : List Happening) → OwnedUpTo n log → (k : ℕ) → k < length log → times_in k (items_of n log) ≡ 1
 places_once n log within k here = let h = within k here in once log k here 0 (n + 1) (omega arith) (omega arith)
 
 -- both ends of each edge are places of the log

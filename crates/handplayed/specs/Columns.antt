@@ -31,7 +31,7 @@ use Rattle.player.specs.declared.notices.PlayedFile.{PlayedFile}
 use Rattle.player.specs.declared.notices.RefusedFile.{RefusedFile}
 use Rattle.player.specs.Playing.{Playing, plays}
 use Rattle.player.specs.Notices.{notice_lines}
-use Rattle.player.specs.Program.{parties_no}
+use Rattle.protocol.specs.Plans.{parties_no}
 
 -- a group before its calls: its pace and plan, the slots that are lent for its log, its table and log
 pub record Setting : Type 0 where
