@@ -25,7 +25,7 @@ use Rattle.graphml.proofs.Forests.{kept_le, kept_whole, length_render}
 use Rattle.graphml.proofs.Shapes.{in_run, kept_shaped, kept_each, body_shaped}
 use Rattle.graphml.proofs.Growing.{Framed}
 use Rattle.graphml.proofs.Told.{things, frame_told, all_counted, edges_counted, first_taken}
-use Rattle.graphml.proofs.Once.{places_once, ends_found}
+use Rattle.graphml.proofs.Once.{places_once, places_once_at_most, fewer, ends_found}
 use Rattle.graphml.proofs.Found.{part_closes, body_framed, body_is, edges_found, happenings_found, parties_found, keys_found, graphs_found}
 
 pub length_head : length head ≡ 255
@@ -124,6 +124,11 @@ module _ (out : List ℕ) (log : List Happening) (n : ℕ) (h : 275 ≤ length o
       edges_counted = ap (λ (l : List (Option Item)). length (flat_map edge_of l)) told ∙ edges_counted 0 fit;
       keys = keys_found fit (kept_each Framed (length out - 275) (body log n) (body_framed log n));
       one_graph = graphs_found fit (kept_each Framed (length out - 275) (body log n) (body_framed log n));
+      no_place_twice = λ k.
+          let few = ap (λ (l : List (Option Item)). times k (flat_map place_of l)) (told ∙ ap all_read first) in
+          let part = fewer k (count is_happening fit + count is_edge fit) (items_of n log) in
+          let all = places_once_at_most n log k in
+          omega arith;
       parties = λ w. ap (λ g. parties_read (in_frame g)) (all_kept w) ∙ parties_found log n small;
       happenings = λ w i h. ap (flat_map (happening_of i)) (all_told w) ∙ happenings_found n log i h;
       edges = all_edges;

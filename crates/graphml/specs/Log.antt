@@ -51,6 +51,8 @@ pub record ShowsTheLog (n : ℕ) (log : List Happening) (x : Exported) (bs : Lis
   pub edges_counted : length (edges_read bs) ≡ x.edges
   pub keys : keys_read bs ≡ happening_keys
   pub one_graph : graphs_read bs ≡ codes "run" ∷ []
+  -- a place is read from its node's id: no such id stands twice
+  pub no_place_twice : (k : ℕ) → times k (places_read bs) ≤ 1
   -- whole, it has the parties 0 to n, of each its records, and the edges of the arrivals, all in their order
   pub parties : x.whole ≡ true → parties_read bs ≡ all_read (numbers 0 (n + 1))
   pub happenings : x.whole ≡ true → (i : ℕ) → i ≤ n → happenings_read i bs ≡ all_read (entries i 0 log)
