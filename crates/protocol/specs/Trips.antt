@@ -15,7 +15,8 @@ use Rattle.protocol.specs.Beats.{settles, happening_at}
 abbrev pub tick_at : List Happening → ℕ → ℕ
 tick_at log k = (happening_at log k).tick
 
--- a settled beat was under way for at most a trip; one on a leg may still arrive, and at most a trip after its sending
+-- a settled beat was under way for at most a trip; one on a leg may still arrive, by its last tick,
+-- which is at most a trip after its sending
 pub record BeatsComeInTime (m : Meaning) (plan : Plan) (s : Play) : Type 0 where
   pub settled :
       (k : ℕ) → k < length s.log → settles (happening_at s.log k).kind ≡ true →
@@ -27,4 +28,5 @@ pub record BeatsComeInTime (m : Meaning) (plan : Plan) (s : Play) : Type 0 where
 -- in every run beats come in time
 abbrev pub RunsBringBeatsInTime : Type 0
 RunsBringBeatsInTime =
-    (m : Meaning) → Lawful m → (plan : Plan) (room : ℕ) (calls : List Call) → BeatsComeInTime m plan (reached m plan room calls)
+    (m : Meaning) → Lawful m → (plan : Plan) (room : ℕ) (calls : List Call) →
+    BeatsComeInTime m plan (reached m plan room calls)
