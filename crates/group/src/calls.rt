@@ -8,14 +8,14 @@ ghost use Rattle.group.specs.Views.{Performed};
 
 use crate::acts::{do_crash, do_deliver, do_join, do_leave, do_lose};
 use crate::advancing::tick_until;
-use crate::group::Group;
-use crate::rounds::do_tick;
 use crate::dues::next_due;
+use crate::group::Group;
+use crate::questions::{ask_beat, ask_crash, ask_join, ask_leave, ask_quiet_tick, ask_tick};
+use crate::rounds::do_tick;
 use pace::Pace;
 use protocol::call::Call;
 use protocol::happening::Happening;
 use protocol::refusal::Refusal;
-use crate::questions::{ask_beat, ask_crash, ask_join, ask_leave, ask_quiet_tick, ask_tick};
 use slots::SlotList;
 
 impl<P: Pace> Group<P> {
@@ -41,7 +41,8 @@ impl<P: Pace> Group<P> {
     pub fn advance(&mut self, log: &mut SlotList<'_, Happening>, until: u32) -> Result<(), Refusal>
         ensures pace { self.new.pace ≡ self.old.pace }
         ensures plan { self.new.plan ≡ self.old.plan }
-        ensures went { WentOn (P.means self.old.pace) self.old.plan until self.old.table self.new.table log.old log.new (told result) }
+        ensures went { WentOn (P.means self.old.pace) self.old.plan until self.old.table
+            self.new.table log.old log.new (told result) }
     {
         if self.table.clock < until {
             ask_tick(&self.plan, &self.table, log)?;

@@ -1,4 +1,4 @@
-// What is due next in a group: until then its ticks only count the clock. Pace, plan and table are three parameters, as in the acts.
+// What is due next in a group: until then its ticks only count the clock. Pace, plan and table are three parameters, as in the rounds.
 mod next;
 mod patience;
 mod timer;

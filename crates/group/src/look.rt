@@ -6,14 +6,14 @@ ghost use Rattle.protocol.specs.Views.{play};
 ghost use Rattle.group.specs.Views.{seen_party, seen_beat};
 ghost use Rattle.protocol.specs.Patience.{patience};
 
-use crate::group::Group;
 use crate::dues::patience_of;
+use crate::group::Group;
+use crate::questions::is_own_log;
 use pace::Pace;
 use protocol::happening::Happening;
 use protocol::party::{Beat, Party};
 use protocol::plan::Plan;
 use protocol::table::Root;
-use crate::questions::is_own_log;
 use slots::SlotList;
 
 impl<P: Pace> Group<P> {

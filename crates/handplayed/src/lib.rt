@@ -1,4 +1,4 @@
-// Runs played by hand, with their figures, made again through the public calls.
+// Runs played by hand, with their figures: shown from the rules, and made again through the public calls.
 #![tactic(auto)]
 
 #[cfg(test)]
@@ -13,3 +13,4 @@ mod paces;
 mod play;
 #[cfg(test)]
 mod runs;
+pub mod worked;

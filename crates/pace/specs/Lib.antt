@@ -2,7 +2,6 @@ pub mod Answers
 pub mod Questions
 pub mod Meaning
 pub mod Waits
-pub mod Cases
 pub mod Fronts
 pub mod Halves
 pub mod Falling

@@ -2,7 +2,6 @@
 #![tactic(auto)]
 
 pub mod cap;
-pub mod cases;
 pub mod halving;
 pub mod limits;
 pub mod listed;

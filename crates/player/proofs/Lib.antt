@@ -6,3 +6,4 @@ pub mod Lengths
 pub mod Files
 pub mod Reading
 mod Ticking
+mod Example

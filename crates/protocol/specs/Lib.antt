@@ -20,6 +20,5 @@ pub mod Told
 pub mod Sendings
 pub mod Trips
 pub mod Kept
-pub mod Cases
 pub mod Views
 pub mod Promise

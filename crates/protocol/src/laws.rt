@@ -1,6 +1,5 @@
 // The laws of whole runs: each function's contract names one, for every lawful pace, every plan, every number of slots and every list of calls.
 ghost use Rattle.protocol.specs.Beats.{RunsSettleEachSendingOnce, RunsPutEachBeatWithItsSending, BeatsTakeFreeLegs};
-ghost use Rattle.protocol.specs.Cases.{WorkedRunsStand};
 ghost use Rattle.protocol.specs.Deliveries.{RunsShowTheirBeats};
 ghost use Rattle.protocol.specs.Laws.{RunsEndTogetherForCause};
 ghost use Rattle.protocol.specs.Order.{RunsKeepTheirLogInOrder};
@@ -63,9 +62,4 @@ pub fn runs_strike_for_good()
 // The log of every run tells of the root and of each party what has become of them.
 pub fn runs_tell_their_group()
     ensures { RunsTellTheirGroup }
-{}
-
-// Runs played by hand: one fact about one table.
-pub fn worked_runs_stand()
-    ensures { WorkedRunsStand }
 {}

@@ -1,5 +1,6 @@
 -- A list in slots, by its records and its spare slots.
-use Rattle.std.specs.Prelude.{◌≡◌, ℕ, ◌-◌, ◌<◌, ◌≤◌, cond, List, ◌++◌, map, length, take, drop, Ok, Err, Option, Result, MatchOption, ◌==◌, nat_lt, slice_index}
+use Rattle.std.specs.Prelude.{◌≡◌, ℕ, ◌-◌, ◌<◌, ◌≤◌, cond, List, ◌++◌, map, length, take, drop, Ok, Err, Option, Result, MatchOption, ◌==◌, nat_lt, nat_le, slice_index}
+use Rattle.std.specs.List.{position}
 use Rattle.std.specs.List.Sorted.{IsNonDecreasingBy}
 use Rattle.slots.specs.declared.SlotList.{SlotList}
 use Rattle.slots.specs.declared.refusal.Refusal.{Refusal}
@@ -53,3 +54,7 @@ module _ {X : Type 0} where
   abbrev pub First : (X → ℕ) → ℕ → List X → Option ℕ → Type 0
   First time t xs r =
       MatchOption r (Before time t xs (length xs)) (λ p. (p < length xs) × (t ≤ slice_index (map time xs) p) × Before time t xs p)
+
+  -- the same place, by a search
+  abbrev pub first_place : (X → ℕ) → ℕ → List X → Option ℕ
+  first_place time t xs = position (λ x. nat_le t (time x)) xs

@@ -1,7 +1,7 @@
 ghost use Rattle.std.specs.Prelude.{◌≡◌, ◌<◌, [], ◌∷◌, length, MatchResult};
 ghost use Rattle.std.specs.List.{slice_get};
 ghost use Rattle.std.specs.List.Sorted.{IsNonDecreasingBy};
-ghost use Rattle.slots.specs.Slots.{items, spare, last_time, LastIsLatest, append_answer, Appended, Extends, First};
+ghost use Rattle.slots.specs.Slots.{items, spare, last_time, LastIsLatest, append_answer, Appended, Extends, First, first_place};
 
 use super::SlotList;
 use super::refusal::Refusal;
@@ -95,7 +95,8 @@ impl<'a, T: Timed + Copy> SlotList<'a, T> {
 
     // The first place whose tick is at least `tick`. A scan, so that it is right for any ticks.
     pub fn first_at_or_after(&self, tick: u32) -> Option<usize>
-        ensures { First T.Timed.time tick (items self.now) result }
+        ensures place { result ≡ first_place T.Timed.time tick (items self.now) }
+        ensures first { First T.Timed.time tick (items self.now) result }
     {
         self.as_slice().iter().position(|item| tick <= item.tick())
     }

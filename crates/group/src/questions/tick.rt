@@ -16,7 +16,11 @@ use protocol::table::Table;
 use slots::SlotList;
 
 #[tactic(auto, using(protocol::proofs::Members::any_take))]
-pub(crate) fn ask_tick(plan: &Plan, table: &Table, log: &SlotList<'_, Happening>) -> Result<(), Refusal>
+pub(crate) fn ask_tick(
+    plan: &Plan,
+    table: &Table,
+    log: &SlotList<'_, Happening>,
+) -> Result<(), Refusal>
     ensures number { told result ≡ number plan.now (capacity log.now) Tick (play table.now log.now) }
     ensures ready { OnOk result (Ready log.now table.now.clock (2 * plan.now.n)) }
 {

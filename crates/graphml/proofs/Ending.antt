@@ -1,31 +1,10 @@
--- The two laws of what is written.
-use Rattle.std.proofs.Common.{◌≡◌, ℕ, ◌+◌, ◌-◌, ◌<◌, false, leb, List, [], ◌∷◌, ◌++◌, sym, refl, ap, ◌∙◌, subst, ⊎_elim, append_assoc, append-nil, arith, leb-false, leb-true}
+-- The first element that does not fit.
+use Rattle.std.proofs.Common.{◌≡◌, ℕ, ◌+◌, ◌-◌, ◌<◌, false, leb, ◌∷◌, ◌++◌, sym, ap, subst, ⊎_elim, append_assoc, append-nil, ◌∙◌, arith, leb-false, leb-true}
 use borrow.Author.Tests.{lt-leb}
-use Rattle.std.specs.List.{flat_map}
 use Rattle.std.proofs.lemmas.Bool.{cases_Bool}
-use Rattle.graphml.specs.Elements.{Tag, opening, closing, Forest, none, element, render}
+use Rattle.graphml.specs.Elements.{Forest, none, element}
 use Rattle.graphml.specs.Cut.{size, cost, kept, all_fits, tags, EndsAt}
-use Rattle.graphml.specs.Nested.{Piece, begins, ends, piece_text, Balanced, WellNested}
 use Rattle.graphml.proofs.Forests.{kept_stop, kept_cut, kept_on}
-
--- the pieces of f, and then ps
-abbrev pieces : Forest → List Piece → List Piece
-pieces none ps = ps
-pieces (element t i a) ps = begins t ∷ pieces i (ends t ∷ pieces a ps)
-
-spelled : (f : Forest) (ps : List Piece) → flat_map piece_text (pieces f ps) ≡ render f ++ flat_map piece_text ps
-spelled none ps = refl
-spelled (element t i a) ps =
-    ap (λ l. opening t ++ l) (spelled i (ends t ∷ pieces a ps) ∙ ap (λ l. render i ++ (closing t ++ l)) (spelled a ps))
-    ∙ sym (append_assoc (opening t ++ render i ++ closing t) (render a) (flat_map piece_text ps) ∙ append_assoc (opening t ++ render i) (closing t) (render a ++ flat_map piece_text ps) ∙ append_assoc (opening t) (render i) (closing t ++ (render a ++ flat_map piece_text ps)))
-
-closed : (f : Forest) (ts : List Tag) (ps : List Piece) → Balanced ts ps → Balanced ts (pieces f ps)
-closed none ts ps h = h
-closed (element t i a) [] ps h = closed i (t ∷ []) (ends t ∷ pieces a ps) (refl, closed a [] ps h)
-closed (element t i a) (u ∷ ts) ps h = closed i (t ∷ u ∷ ts) (ends t ∷ pieces a ps) (refl, closed a (u ∷ ts) ps h)
-
-pub well_nested : (f : Forest) → WellNested (render f)
-well_nested f = record { pieces = pieces f []; text = spelled f [] ∙ append-nil (render f); balanced = closed f [] [] tt }
 
 pub ends_at : (room : ℕ) (f : Forest) → all_fits room f ≡ false → EndsAt room f
 ends_at room none p = absurd (let h = leb-false 0 room p in omega arith)

@@ -1,0 +1,4 @@
+pub mod Columns
+pub mod Groups
+pub mod Texts
+pub mod Table
