@@ -21,7 +21,7 @@ use Rattle.protocol.specs.Deliveries.{delivery_of, granted_deliveries, receiver,
 use Rattle.protocol.proofs.Asked.{asked_beat}
 use Rattle.protocol.proofs.Making.{some_number}
 use Rattle.protocol.proofs.Logs.{beat_edge, delivery, deliveries, after as edges_of, put_by, held}
-use Rattle.protocol.proofs.Records.{Grown, further, follows, arrived_push, arrived_still, sent_still, plays}
+use Rattle.protocol.proofs.Records.{Grown, OwnedBy, further, follows, arrived_push, arrived_still, sent_still, plays}
 use Rattle.protocol.proofs.Runs.{run_of}
 
 -- a beat stands on one of three legs
@@ -104,7 +104,7 @@ module _ (m : Meaning) (plan : Plan) (room : ℕ) where
   arrives_as None i leg b s e h = absurd (grind arith)
   arrives_as (Some d) i leg b s e h =
       let t = s.table in
-      arrived_still _ _ t.clock (receiver leg i) (length s.log) (follows plan.n t.clock t.root leg d i (the i t) s.log h)
+      arrived_still _ _ t.clock (receiver leg i) (length s.log) (follows plan.n (λ _. ⊥) t.clock t.root leg d i (the i t) s.log h)
       (arrived_push s.log t.clock (receiver leg i) d.place)
 
   arrives_at : (i leg k : ℕ) (b : Beat) (s : Play) → k ≡ 0 → on_leg leg (the i s.table) ≡ Some b → i ≤ plan.n →
@@ -145,9 +145,9 @@ module _ (m : Meaning) (plan : Plan) (room : ℕ) where
     stood = holds _ asked.2
 
     -- the log of the run has grown out of the one after the delivery
-    later : Grown plan.n then.log s.log
+    later : Grown (OwnedBy plan.n) then.log s.log
     later =
-        subst (λ (t : Play). Grown plan.n then.log t.log) (sym (run_of m plan room then after s (subst (λ call. Rehearsed m plan room (perform m plan room call now) after s) is cut.2)).0)
+        subst (λ (t : Play). Grown (OwnedBy plan.n) then.log t.log) (sym (run_of m plan room then after s (subst (λ call. Rehearsed m plan room (perform m plan room call now) after s) is cut.2)).0)
         (plays m plan room (map call_of after) then)
 
     is_edge : IsEdgeOf m plan room calls i leg s.log (edge stood.0.place (length now.log))
@@ -161,7 +161,7 @@ module _ (m : Meaning) (plan : Plan) (room : ℕ) where
           arrival = arrived_still then.log s.log _ _ _ later arrival;
           not_yet = omega arith;
           written = arrival.below;
-          sending = sent_still now.log s.log _ _ (further plan.n _ _ _ (plays m plan room (Deliver i leg ∷ []) now) later) (held m plan room calls i leg b asked.0 asked.1 stood.1);
+          sending = sent_still now.log s.log _ _ (further _ _ _ _ (plays m plan room (Deliver i leg ∷ []) now) later) (held m plan room calls i leg b asked.0 asked.1 stood.1);
           beat = b;
           stood = stood.1;
           sent_there = refl;

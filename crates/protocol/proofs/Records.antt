@@ -1,9 +1,14 @@
--- The records of a log stay as they are, and each call writes only such as the root or a party of the plan owns.
-use Rattle.std.proofs.Common.{◌≡◌, ℕ, zero, suc, ◌+◌, ◌<◌, ◌≤◌, Bool, true, false, cond, eqb, List, [], ◌∷◌, ◌++◌, length, Some, None, Option, refl, ap, ◌∙◌, arith}
+-- The records of a log stay as they are, and what a call writes: records of the root or a party of the plan, dated at the clock, of which
+-- an arrival or a loss links to the sending of a beat that was under way.
+use Rattle.std.proofs.Common.{◌≡◌, ℕ, zero, suc, ◌+◌, ◌-◌, ◌<◌, ◌≤◌, Bool, true, false, cond, eqb, leb, List, [], ◌∷◌, ◌++◌, length, Some, None, Option, sym, refl, ap, ◌∙◌, subst, arith}
 use native.Mathlib.Decide.{dec_lt}
 use Rattle.std.proofs.lemmas.List.{length_push, get_or_append_left, get_or_push}
 use Rattle.protocol.specs.declared.party.Party.{Party}
 use Rattle.protocol.specs.declared.party.Beat.{Beat}
+use Rattle.protocol.specs.declared.party.Stage.{Stage}
+use Rattle.protocol.specs.declared.party.Stage.TheVariants.{Joining, In, Leaving}
+use Rattle.protocol.specs.declared.party.Standing.{Standing}
+use Rattle.protocol.specs.declared.party.Standing.TheVariants.{Outside, Live, Ended}
 use Rattle.protocol.specs.declared.party.Roll.{Roll}
 use Rattle.protocol.specs.declared.party.Roll.TheVariants.{Off, On, Struck}
 use Rattle.protocol.specs.declared.table.Root.{Root}
@@ -16,28 +21,41 @@ use Rattle.protocol.specs.declared.call.Call.TheVariants.{Tick, Deliver, Lose, C
 use Rattle.pace.specs.Meaning.{Meaning}
 use Rattle.protocol.specs.Patience.{trip, patience}
 use Rattle.protocol.specs.Walk.{folds}
-use Rattle.protocol.specs.Party.{on_leg, on_roll, missed_all, live}
-use Rattle.protocol.specs.Group.{Play, the, happens, tells_of, links, sender, answer_log, arrival_log, runs, delivered_as, lost_as, crashed, any, shortest, counted, send_log, sent, started, settled_as, rounded_as, rounded, round_ends, tells_if, timer_log, timed, opened}
+use Rattle.protocol.specs.Party.{on_leg, on_roll, missed_all, live, calls_in}
+use Rattle.protocol.specs.Group.{Play, the, happens, tells_of, links, sender, answer_log, arrival_log, runs, delivered_as, lost_as, crashed, any, shortest, counted, send_log, sent, live_word, started, settled_as, rounded_as, rounded, round_ends, tells_if, timer_log, timed, opened}
 use Rattle.protocol.specs.Runs.{number, done, unless, perform, played}
-use Rattle.protocol.specs.Beats.{nothing, happening_at, SentBy}
+use Rattle.protocol.specs.Beats.{settles, nothing, happening_at, SentBy}
 use Rattle.protocol.specs.Order.{OwnedUpTo}
 use Rattle.protocol.specs.Deliveries.{receiver, ArrivedBy}
+use Rattle.protocol.specs.Sendings.{UnderWay}
+use Rattle.protocol.proofs.Clock.{rounded_clock}
 use Rattle.protocol.proofs.Asked.{asked_party, asked_low}
 
--- the log has grown by records of owners up to n
-pub record Grown (n : ℕ) (log log' : List Happening) : Type 0 where
+clash : (b : Bool) → b ≡ true → b ≡ false → ⊥
+clash b e f = let z : ◌≡◌ {A = ℕ} 0 1 = cc in omega arith
+
+-- the log has grown by records of which Q holds
+pub record Grown (Q : Happening → Type 0) (log log' : List Happening) : Type 0 where
   pub longer : length log ≤ length log'
   pub kept : (k : ℕ) → k < length log → happening_at log' k ≡ happening_at log k
-  pub owned : (k : ℕ) → length log ≤ k → k < length log' → (happening_at log' k).owner ≤ n
+  pub fresh : (k : ℕ) → length log ≤ k → k < length log' → Q (happening_at log' k)
+
+-- the record is owned by the root or one of n parties
+abbrev pub OwnedBy : ℕ → Happening → Type 0
+OwnedBy n h = h.owner ≤ n
+
+-- and dated at c; where it settles a beat, S holds of the place of the sending
+abbrev pub Wrote : ℕ → ℕ → (ℕ → Type 0) → Happening → Type 0
+Wrote n c S h = (h.owner ≤ n) × (h.tick ≡ c) × (settles h.kind ≡ true → S h.link)
 
 -- what stands in a log still stands there
 
-pub sent_still : {n : ℕ} (log log' : List Happening) (o k : ℕ) → Grown n log log' → SentBy log o k → SentBy log' o k
+pub sent_still : {Q : Happening → Type 0} (log log' : List Happening) (o k : ℕ) → Grown Q log log' → SentBy log o k → SentBy log' o k
 sent_still log log' o k g s =
     let e = g.kept k s.below in
     record { below = omega (arith, g.longer, s.below); kind = ap (λ (h : Happening). h.kind) e ∙ s.kind; owner = ap (λ (h : Happening). h.owner) e ∙ s.owner }
 
-pub arrived_still : {n : ℕ} (log log' : List Happening) (c o k : ℕ) → Grown n log log' → ArrivedBy log c o k → ArrivedBy log' c o k
+pub arrived_still : {Q : Happening → Type 0} (log log' : List Happening) (c o k : ℕ) → Grown Q log log' → ArrivedBy log c o k → ArrivedBy log' c o k
 arrived_still log log' c o k g a =
     let e = g.kept k a.below in
     record {
@@ -58,64 +76,69 @@ arrived_push log c o place =
       owner = ap (λ (h : Happening). h.owner) e;
     }
 
-module _ (n : ℕ) where
-  abbrev Grows : List Happening → List Happening → Type 0
-  Grows = Grown n
+module _ (Q : Happening → Type 0) where
+  pub stays : (log : List Happening) → Grown Q log log
+  stays log = record { longer = omega arith; kept = λ k h. refl; fresh = λ k lo hi. absurd (omega arith) }
 
-  stays : (log : List Happening) → Grows log log
-  stays log = record { longer = omega arith; kept = λ k h. refl; owned = λ k lo hi. absurd (omega arith) }
-
-  pub further : (x y z : List Happening) → Grows x y → Grows y z → Grows x z
+  pub further : (x y z : List Happening) → Grown Q x y → Grown Q y z → Grown Q x z
   further x y z f g = record {
     longer = omega (arith, f.longer, g.longer);
     kept = λ k h. g.kept k (omega (arith, f.longer)) ∙ f.kept k h;
-    owned = λ k lo hi. elim (dec_lt k (length y)) [
-      | yes early ↦ omega (arith, ap (λ (h : Happening). h.owner) (g.kept k early), f.owned k lo early)
-      | no late ↦ g.owned k (omega arith) hi
+    fresh = λ k lo hi. elim (dec_lt k (length y)) [
+      | yes early ↦ subst Q (sym (g.kept k early)) (f.fresh k lo early)
+      | no late ↦ g.fresh k (omega arith) hi
     ];
   }
 
-  pushes : (log : List Happening) (h : Happening) → h.owner ≤ n → Grows log (log ++ h ∷ [])
-  pushes log h low = record {
+  pushes : (log : List Happening) (h : Happening) → Q h → Grown Q log (log ++ h ∷ [])
+  pushes log h q = record {
     longer = omega (arith, length_push log h);
     kept = λ k below. get_or_append_left log (h ∷ []) nothing k below;
-    owned = λ k lo hi.
-        omega (arith, ap (λ (x : Happening). x.owner) (get_or_push log h nothing k (omega (arith, length_push log h))), low);
+    fresh = λ k lo hi. subst Q (sym (get_or_push log h nothing k (omega (arith, length_push log h)))) q;
   }
 
-  conds : (b : Bool) (log x y : List Happening) → Grows log x → Grows log y → Grows log (cond b x y)
+  conds : (b : Bool) (log x y : List Happening) → Grown Q log x → Grown Q log y → Grown Q log (cond b x y)
   conds true log x y f g = f
   conds false log x y f g = g
 
   folds_grow :
-      {A : Type 0} (g : ℕ → List Happening → A → List Happening) → ((j : ℕ) (log : List Happening) (x : A) → j ≤ n → Grows log (g j log x)) →
-      (j i : ℕ) (log : List Happening) (xs : List A) → j + i ≤ suc n → Grows log (folds g j i log xs)
-  folds_grow g grows j zero log xs h = stays log
-  folds_grow g grows j (suc i) log [] h = stays log
-  folds_grow g grows j (suc i) log (x ∷ xs) h =
-      further _ _ _ (grows j log x (omega arith)) (folds_grow g grows (suc j) i (g j log x) xs (omega arith))
+      {A : Type 0} (n : ℕ) (g : ℕ → List Happening → A → List Happening) →
+      ((j : ℕ) (log : List Happening) (x : A) → j ≤ n → Grown Q log (g j log x)) →
+      (j i : ℕ) (log : List Happening) (xs : List A) → j + i ≤ suc n → Grown Q log (folds g j i log xs)
+  folds_grow n g grows j zero log xs h = stays log
+  folds_grow n g grows j (suc i) log [] h = stays log
+  folds_grow n g grows j (suc i) log (x ∷ xs) h =
+      further _ _ _ (grows j log x (omega arith)) (folds_grow n g grows (suc j) i (g j log x) xs (omega arith))
+
+weaken : (Q R : Happening → Type 0) (log log' : List Happening) → ((h : Happening) → Q h → R h) → Grown Q log log' → Grown R log log'
+weaken Q R log log' f g = record { longer = g.longer; kept = g.kept; fresh = λ k lo hi. f _ (g.fresh k lo hi) }
+
+module _ (n : ℕ) (S : ℕ → Type 0) where
+  -- a record of an owner up to n that settles nothing
+  writes : (c : ℕ) (log : List Happening) (i : ℕ) (w : HappeningKind) (l : ℕ) → i ≤ n → settles w ≡ false → Grown (Wrote n c S) log (log ++ happens c i w l ∷ [])
+  writes c log i w l h none = pushes (Wrote n c S) log (happens c i w l) (h, refl, λ is. absurd (clash _ is none))
 
   -- deliver, lose
 
-  answer_grows : (roll : Roll) (b : Bool) (c i : ℕ) (log : List Happening) → i ≤ n → Grows log (answer_log roll b c i log)
-  answer_grows Struck b c i log h = stays log
-  answer_grows On true c i log h = pushes log _ h
-  answer_grows Off true c i log h = pushes log _ h
-  answer_grows On false c i log h = stays log
-  answer_grows Off false c i log h = pushes log _ h
+  answer_grows : (roll : Roll) (b : Bool) (c i : ℕ) (log : List Happening) → i ≤ n → Grown (Wrote n c S) log (answer_log roll b c i log)
+  answer_grows Struck b c i log h = stays _ log
+  answer_grows On true c i log h = writes c log i _ _ h refl
+  answer_grows Off true c i log h = writes c log i _ _ h refl
+  answer_grows On false c i log h = stays _ log
+  answer_grows Off false c i log h = writes c log i _ _ h refl
 
   -- what follows the record of the arrival
   pub follows : (c : ℕ) (r : Root) (leg : ℕ) (b : Beat) (i : ℕ) (p : Party) (log : List Happening) → i ≤ n →
-      Grows (links c (receiver leg i) Arrived b.place log) (arrival_log c r leg b i p log)
+      Grown (Wrote n c S) (links c (receiver leg i) Arrived b.place log) (arrival_log c r leg b i p log)
   follows c r leg b i p log h = go (eqb leg 1)
     where
       go : (x : Bool) →
-          Grows (links c (cond x i 0) Arrived b.place log)
+          Grown (Wrote n c S) (links c (cond x i 0) Arrived b.place log)
           (cond x
           (cond (live p.own.standing) (tells_of c i Sent (links c i Arrived b.place log)) (links c i Arrived b.place log))
           (cond (runs r) (answer_log p.note.roll b.parting c i (links c 0 Arrived b.place log)) (links c 0 Arrived b.place log)))
-      go true = conds (live p.own.standing) _ _ _ (pushes _ _ h) (stays _)
-      go false = conds (runs r) _ _ _ (answer_grows p.note.roll b.parting c i _ h) (stays _)
+      go true = conds _ (live p.own.standing) _ _ _ (writes c _ i _ _ h refl) (stays _ _)
+      go false = conds _ (runs r) _ _ _ (answer_grows p.note.roll b.parting c i _ h) (stays _ _)
 
   end_of : (x : Bool) (i : ℕ) → i ≤ n → cond x i 0 ≤ n
   end_of true i h = h
@@ -125,64 +148,94 @@ module _ (n : ℕ) where
   other_end_of true i h = omega arith
   other_end_of false i h = h
 
-  delivers : (o : Option Beat) (i leg : ℕ) (s : Play) → i ≤ n → Grows s.log (delivered_as o i leg s).log
-  delivers None i leg s h = stays s.log
-  delivers (Some b) i leg s h =
+  delivers : (o : Option Beat) (i leg : ℕ) (s : Play) → i ≤ n → ((b : Beat) → o ≡ Some b → S b.place) → Grown (Wrote n s.table.clock S) s.log (delivered_as o i leg s).log
+  delivers None i leg s h of_one = stays _ s.log
+  delivers (Some b) i leg s h of_one =
       let t = s.table in
-      further _ _ _ (pushes s.log (happens t.clock (receiver leg i) Arrived b.place) (end_of (eqb leg 1) i h)) (follows t.clock t.root leg b i (the i t) s.log h)
+      further _ _ _ _ (pushes _ s.log (happens t.clock (receiver leg i) Arrived b.place) (end_of (eqb leg 1) i h, refl, λ is. of_one b refl))
+      (follows t.clock t.root leg b i (the i t) s.log h)
 
-  loses_one : (o : Option Beat) (i leg : ℕ) (s : Play) → i ≤ n → Grows s.log (lost_as o i leg s).log
-  loses_one None i leg s h = stays s.log
-  loses_one (Some b) i leg s h = pushes s.log (happens s.table.clock (sender leg i) Lost b.place) (other_end_of (eqb leg 1) i h)
+  loses_one : (o : Option Beat) (i leg : ℕ) (s : Play) → i ≤ n → ((b : Beat) → o ≡ Some b → S b.place) → Grown (Wrote n s.table.clock S) s.log (lost_as o i leg s).log
+  loses_one None i leg s h of_one = stays _ s.log
+  loses_one (Some b) i leg s h of_one =
+      pushes _ s.log (happens s.table.clock (sender leg i) Lost b.place) (other_end_of (eqb leg 1) i h, refl, λ is. of_one b refl)
 
-  crashes : (i : ℕ) (s : Play) → i ≤ n → Grows s.log (crashed i s).log
-  crashes zero s h = pushes s.log _ h
-  crashes (suc i) s h = pushes s.log _ h
+  crashes : (i : ℕ) (s : Play) → i ≤ n → Grown (Wrote n s.table.clock S) s.log (crashed i s).log
+  crashes zero s h = writes s.table.clock s.log 0 _ _ h refl
+  crashes (suc i) s h = writes s.table.clock s.log (suc i) _ _ h refl
 
   -- a tick
 
-  word_grows : (w : Option HappeningKind) (c i : ℕ) (log : List Happening) → i ≤ n → Grows log (tells_if w c i log)
-  word_grows None c i log h = stays log
-  word_grows (Some w) c i log h = pushes log _ h
+  silent_grows : (g : Stage) (c i : ℕ) (log : List Happening) → i ≤ n → Grown (Wrote n c S) log (tells_if (live_word true false g) c i log)
+  silent_grows Joining c i log h = writes c log i _ _ h refl
+  silent_grows In c i log h = writes c log i _ _ h refl
+  silent_grows Leaving c i log h = writes c log i _ _ h refl
 
-  starts : (last : ℕ) (s : Play) → Grows s.log (sent last n s).log
+  live_grows : (ends calls : Bool) (g : Stage) (c i : ℕ) (log : List Happening) → i ≤ n → Grown (Wrote n c S) log (tells_if (live_word ends calls g) c i log)
+  live_grows true calls g c i log h = silent_grows g c i log h
+  live_grows false true g c i log h = writes c log i _ _ h refl
+  live_grows false false g c i log h = stays _ log
+
+  timer_grows : (st : Standing) (c d l since i : ℕ) (log : List Happening) → i ≤ n → Grown (Wrote n c S) log (timer_log st c d l since i log)
+  timer_grows Outside c d l since i log h = stays _ log
+  timer_grows (Live g) c d l since i log h = live_grows (leb d (c - since)) (calls_in g l (c - since)) g c i log h
+  timer_grows (Ended how at g) c d l since i log h = stays _ log
+
+  starts : (last : ℕ) (s : Play) → Grown (Wrote n s.table.clock S) s.log (sent last n s).log
   starts last s =
-      folds_grow (λ _ log p. send_log s.table.clock log p) (λ j log p h. conds (on_roll p.note.roll) _ _ _ (pushes log _ (omega arith)) (stays log))
+      let c = s.table.clock in
+      folds_grow (Wrote n c S) n (λ _ log p. send_log c log p)
+      (λ j log p h. conds _ (on_roll p.note.roll) _ _ _ (writes c log 0 _ _ (omega arith) refl) (stays _ log))
       1 n s.log s.table.parties (omega arith)
 
-  settles : (b : Bool) (m : Meaning) (s : Play) → Grows s.log (settled_as b m n s).log
-  settles true m s = pushes s.log _ (omega arith)
-  settles false m s = starts (s.table.clock + trip m) (started (shortest m.waits m.tmax n s.table.parties) s)
+  settles_round : (b : Bool) (m : Meaning) (s : Play) → Grown (Wrote n s.table.clock S) s.log (settled_as b m n s).log
+  settles_round true m s = writes s.table.clock s.log 0 _ _ (omega arith) refl
+  settles_round false m s = starts (s.table.clock + trip m) (started (shortest m.waits m.tmax n s.table.parties) s)
 
-  rounds : (b : Bool) (m : Meaning) (s : Play) → Grows s.log (rounded_as b m n s).log
-  rounds true m s = settles (any (missed_all (length m.waits)) n (counted n s).table.parties) m (counted n s)
-  rounds false m s = stays s.log
+  rounds : (b : Bool) (m : Meaning) (s : Play) → Grown (Wrote n s.table.clock S) s.log (rounded_as b m n s).log
+  rounds true m s = settles_round (any (missed_all (length m.waits)) n (counted n s).table.parties) m (counted n s)
+  rounds false m s = stays _ s.log
 
-  timers : (d l x : ℕ) (s : Play) → Grows s.log (timed d l x n s).log
+  timers : (d l x : ℕ) (s : Play) → Grown (Wrote n s.table.clock S) s.log (timed d l x n s).log
   timers d l x s =
-      folds_grow (λ i log (p : Party). timer_log p.own.standing s.table.clock d l p.own.since i log) (λ j log p h. word_grows _ s.table.clock j log h)
+      let c = s.table.clock in
+      folds_grow (Wrote n c S) n (λ i log (p : Party). timer_log p.own.standing c d l p.own.since i log)
+      (λ j log p h. timer_grows p.own.standing c d l p.own.since j log h)
       1 n s.log s.table.parties (omega arith)
 
 module _ (m : Meaning) (plan : Plan) (room : ℕ) where
-  does : (call : Call) (s : Play) → number plan room call s ≡ 0 → Grown plan.n s.log (done m plan call s).log
+  -- what a granted call writes
+  pub does : (call : Call) (s : Play) → number plan room call s ≡ 0 → Grown (Wrote plan.n s.table.clock (UnderWay plan.n s.table)) s.log (done m plan call s).log
   does Tick s e =
-      further plan.n _ _ _ (rounds plan.n (round_ends s.table) m s) (timers plan.n (patience m plan.kind) m.tmin (trip m) (rounded m plan.n s))
-  does (Deliver i leg) s e = delivers plan.n (on_leg leg (the i s.table)) i leg s (asked_party plan.n i _ e).1
-  does (Lose i leg) s e = loses_one plan.n (on_leg leg (the i s.table)) i leg s (asked_party plan.n i _ e).1
-  does (Crash i) s e = crashes plan.n i s (asked_low plan.n i _ e)
-  does (Join i) s e = let a = asked_party plan.n i _ e in further plan.n _ _ _ (pushes plan.n s.log _ a.1) (pushes plan.n _ _ a.1)
-  does (Leave i) s e = pushes plan.n s.log _ (asked_party plan.n i _ e).1
+      let S = UnderWay plan.n s.table in
+      let r = rounded m plan.n s in
+      further _ _ _ _ (rounds plan.n S (round_ends s.table) m s)
+      (subst (λ c. Grown (Wrote plan.n c S) r.log (timed (patience m plan.kind) m.tmin (trip m) plan.n r).log) (rounded_clock m plan.n (round_ends s.table) s)
+      (timers plan.n S (patience m plan.kind) m.tmin (trip m) r))
+  does (Deliver i leg) s e =
+      let a = asked_party plan.n i _ e in
+      delivers plan.n _ (on_leg leg (the i s.table)) i leg s a.1 (λ b on. record { party = i; leg = leg; beat = b; of_a_party = a; stands = on; sent_there = refl })
+  does (Lose i leg) s e =
+      let a = asked_party plan.n i _ e in
+      loses_one plan.n _ (on_leg leg (the i s.table)) i leg s a.1 (λ b on. record { party = i; leg = leg; beat = b; of_a_party = a; stands = on; sent_there = refl })
+  does (Crash i) s e = crashes plan.n _ i s (asked_low plan.n i _ e)
+  does (Join i) s e =
+      let a = asked_party plan.n i _ e in
+      let c = s.table.clock in
+      further _ _ _ _ (writes plan.n _ c s.log i _ _ a.1 refl) (writes plan.n _ c _ i _ _ a.1 refl)
+  does (Leave i) s e = writes plan.n _ s.table.clock s.log i _ _ (asked_party plan.n i _ e).1 refl
 
-  performs_as : (call : Call) (s : Play) (k : ℕ) → number plan room call s ≡ k → Grown plan.n s.log (unless k s (done m plan call s)).log
-  performs_as call s zero e = does call s e
-  performs_as call s (suc k) e = stays plan.n s.log
+  performs_as : (call : Call) (s : Play) (k : ℕ) → number plan room call s ≡ k → Grown (OwnedBy plan.n) s.log (unless k s (done m plan call s)).log
+  performs_as call s zero e =
+      weaken (Wrote plan.n s.table.clock (UnderWay plan.n s.table)) (OwnedBy plan.n) s.log (done m plan call s).log (λ h w. w.0) (does call s e)
+  performs_as call s (suc k) e = stays _ s.log
 
-  pub performs : (call : Call) (s : Play) → Grown plan.n s.log (perform m plan room call s).log
+  pub performs : (call : Call) (s : Play) → Grown (OwnedBy plan.n) s.log (perform m plan room call s).log
   performs call s = performs_as call s (number plan room call s) refl
 
-  pub plays : (calls : List Call) (s : Play) → Grown plan.n s.log (played m plan room calls s).log
-  plays [] s = stays plan.n s.log
-  plays (call ∷ calls) s = further plan.n _ _ _ (performs call s) (plays calls (perform m plan room call s))
+  pub plays : (calls : List Call) (s : Play) → Grown (OwnedBy plan.n) s.log (played m plan room calls s).log
+  plays [] s = stays _ s.log
+  plays (call ∷ calls) s = further _ _ _ _ (performs call s) (plays calls (perform m plan room call s))
 
   pub owned : (calls : List Call) → OwnedUpTo plan.n (played m plan room calls (opened m plan)).log
-  owned calls k h = (plays calls (opened m plan)).owned k (omega arith) h
+  owned calls k h = (plays calls (opened m plan)).fresh k (omega arith) h

@@ -12,6 +12,7 @@ use Rattle.protocol.specs.Deliveries.{RunsShowTheirBeats}
 use Rattle.protocol.specs.Order.{LogInOrder}
 use Rattle.protocol.specs.Sendings.{NoBeatVanishes}
 use Rattle.protocol.specs.Told.{TellsTheGroup}
+use Rattle.protocol.specs.Trips.{BeatsComeInTime}
 use Rattle.protocol.specs.Rehearsals.{Rehearsed, call_of, answer_of}
 use Rattle.protocol.specs.Promise.{KeepsTheRules}
 use Rattle.protocol.proofs.Runs.{run_of}
@@ -21,6 +22,7 @@ use Rattle.protocol.proofs.Deliveries.{are_the_deliveries}
 use Rattle.protocol.proofs.Sendings.{no_beat_vanishes}
 use Rattle.protocol.proofs.Strikes.{strikes_for_good}
 use Rattle.protocol.proofs.Told.{tells_the_group}
+use Rattle.protocol.proofs.Trips.{in_time}
 use Rattle.protocol.proofs.Ends.{laws}
 use Rattle.protocol.proofs.Whole.{free_legs}
 
@@ -59,6 +61,7 @@ module _ (m : Meaning) (plan : Plan) (room : ℕ) where
         beats_go_back_to_their_sendings = subst (BeatsAreLogged plan) back (logs_beats m plan room calls);
         no_sending_settles_twice = subst (SendingsSettleOnce plan) back (settle_once m sound plan room calls);
         no_beat_vanishes = subst (NoBeatVanishes plan) back (no_beat_vanishes m sound plan room calls);
+        beats_come_in_time = subst (BeatsComeInTime m plan) back (in_time m sound plan room calls);
         sends_fall_on_free_legs = λ before after call among. free_legs m sound plan room before call;
         struck_is_for_good = strikes_for_good m sound plan room calls;
         log_in_order = subst (LogInOrder plan) back (in_order m sound plan room calls);

@@ -1,6 +1,7 @@
--- The steps of a run are the run of their calls.
-use Rattle.std.proofs.Common.{◌≡◌, ℕ, List, [], ◌∷◌, map, refl, ap, ◌∙◌}
+-- Runs cut at a call, and the steps of a run as the run of their calls.
+use Rattle.std.proofs.Common.{◌≡◌, ℕ, List, [], ◌∷◌, ◌++◌, map, refl, ap, ◌∙◌}
 use Rattle.protocol.specs.declared.plan.Plan.{Plan}
+use Rattle.protocol.specs.declared.call.Call.{Call}
 use Rattle.protocol.specs.declared.call.Step.{Step}
 use Rattle.pace.specs.Meaning.{Meaning}
 use Rattle.protocol.specs.Group.{Play}
@@ -8,6 +9,15 @@ use Rattle.protocol.specs.Runs.{number, perform, played, answered}
 use Rattle.protocol.specs.Rehearsals.{Rehearsed, call_of, answer_of}
 
 module _ (m : Meaning) (plan : Plan) (room : ℕ) where
+  pub played_snoc : (calls : List Call) (call : Call) (s : Play) → played m plan room (calls ++ call ∷ []) s ≡ perform m plan room call (played m plan room calls s)
+  played_snoc [] call s = refl
+  played_snoc (x ∷ calls) call s = played_snoc calls call (perform m plan room x s)
+
+  pub played_cut : (before : List Call) (call : Call) (after : List Call) (s : Play) →
+      played m plan room (before ++ call ∷ after) s ≡ played m plan room after (perform m plan room call (played m plan room before s))
+  played_cut [] call after s = refl
+  played_cut (x ∷ before) call after s = played_cut before call after (perform m plan room x s)
+
   pub run_of : (s : Play) (xs : List Step) (s' : Play) → Rehearsed m plan room s xs s' →
       (s' ≡ played m plan room (map call_of xs) s) × (map answer_of xs ≡ answered m plan room (map call_of xs) s)
   run_of s [] s' h = (h, refl)

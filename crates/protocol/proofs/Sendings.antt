@@ -22,13 +22,14 @@ use Rattle.protocol.specs.Patience.{trip, patience}
 use Rattle.protocol.specs.Walk.{folds, walks}
 use Rattle.protocol.specs.Party.{beat, party, legs_of, nobody, on_leg, off_leg, off_out, off_reply, off_entry, arrives, hears_as, heeds, joined, now_leaving, crashes, missed, sends, sends_as, on_roll, missed_all, times, times_as, times_live, calls_in, live}
 use Rattle.protocol.specs.Group.{Play, the, happens, tells_of, links, sender, answer_log, arrival_log, runs, delivered_as, lost_as, crashed, joins, leaves, any, shortest, counted, send_log, sent, started, settled_as, rounded_as, rounded, round_ends, live_word, tells_if, timer_log, timed, opened}
-use Rattle.protocol.specs.Runs.{number, done, unless, perform, played, reached}
+use Rattle.protocol.specs.Runs.{number, done, unless, reached}
 use Rattle.protocol.specs.Beats.{settles, nothing, happening_at, FreeFor}
 use Rattle.protocol.specs.Sendings.{SettledAt, UnderWay, RunsLetNoBeatVanish}
 use Rattle.protocol.proofs.Asked.{asked_party, asked_low}
 use Rattle.protocol.proofs.Lifts.{set_each, walks_long, walks_each}
 use Rattle.protocol.proofs.Onward.{every_push}
 use Rattle.protocol.proofs.Logs.{after as logged_after}
+use Rattle.protocol.proofs.Runs.{played_snoc}
 use Rattle.protocol.proofs.Whole.{free_legs}
 use Rattle.protocol.proofs.Clock.{rounded_clock}
 
@@ -477,10 +478,6 @@ module _ (m : Meaning) (plan : Plan) (room : ℕ) where
   performs call s zero z free long a = does call s z (free refl) long a
   performs call s (suc k) z free long a = a
 
-  played_snoc : (calls : List Call) (call : Call) (s : Play) → played m plan room (calls ++ call ∷ []) s ≡ perform m plan room call (played m plan room calls s)
-  played_snoc [] call s = refl
-  played_snoc (x ∷ calls) call s = played_snoc calls call (perform m plan room x s)
-
   module _ (sound : Lawful m) where
     plays : (before later : List Call) → All plan.n (reached m plan room before) → All plan.n (reached m plan room (before ++ later))
     plays before [] a = subst (λ calls. All plan.n (reached m plan room calls)) (sym (append-nil before)) a
@@ -488,7 +485,7 @@ module _ (m : Meaning) (plan : Plan) (room : ℕ) where
         let s = reached m plan room before in
         let next = performs call s (number plan room call s) refl (free_legs m sound plan room before call) (logged_after m plan room before).0.long a in
         subst (λ calls. All plan.n (reached m plan room calls)) (append_assoc before (call ∷ []) later)
-        (plays (before ++ call ∷ []) later (subst (All plan.n) (sym (played_snoc before call (opened m plan))) next))
+        (plays (before ++ call ∷ []) later (subst (All plan.n) (sym (played_snoc m plan room before call (opened m plan))) next))
 
 under_way : (n : ℕ) (s : Play) (k : ℕ) → HasOne n s.table.parties k → UnderWay n s.table k
 under_way n s k h = record {

@@ -70,6 +70,16 @@ module _ (m : Terms) (kind : GroupKind) (law : LawfulTerms m kind) (q : Bool) (c
       go None f = refl
       go (Some b) f = let g = no_gap c p.own.since b.last m.tmin k.past whole in absurd (grind (arith, nat_tests))
 
+  -- a beat on a leg may still arrive, and not for more than tmin
+  last_as : (x y z : Bool) (b : Beat) → cond x p.legs.out (cond y p.legs.reply (cond z p.legs.entry None)) ≡ Some b → (c ≤ b.last) × (b.last ≤ c + m.tmin)
+  last_as true y z b e = grind (arith, nat_tests)
+  last_as false true z b e = grind (arith, nat_tests)
+  last_as false false true b e = grind (arith, nat_tests)
+  last_as false false false b e = absurd (grind arith)
+
+  pub last_ticks : (leg : ℕ) (b : Beat) → on_leg leg p ≡ Some b → (c ≤ b.last) × (b.last ≤ c + m.tmin)
+  last_ticks leg b e = last_as (eqb leg 1) (eqb leg 2) (eqb leg 3) b e
+
   pub no_beat_to_struck : p.note.roll ≡ Struck → p.legs.out ≡ None
   no_beat_to_struck e = gone _ (grind (arith, nat_tests))
 

@@ -24,7 +24,7 @@ module _ (m : Meaning) (plan : Plan) where
   lost_clock None i leg s = refl
   lost_clock (Some b) i leg s = refl
 
-  done_clock : (call : Call) (s : Play) → (done m plan call s).table.clock ≡ adds call true + s.table.clock
+  pub done_clock : (call : Call) (s : Play) → (done m plan call s).table.clock ≡ adds call true + s.table.clock
   done_clock Tick s = omega (arith, ticked_clock m plan s)
   done_clock (Deliver i leg) s = omega (arith, delivered_clock (on_leg leg (the i s.table)) i leg s)
   done_clock (Lose i leg) s = omega (arith, lost_clock (on_leg leg (the i s.table)) i leg s)

@@ -387,6 +387,16 @@ root_timers d l x n s e =
     (λ j log p past. root_word _ s.table.clock j log (omega arith)) 1 n s.log s.table.parties (omega arith)
     ∙ e
 
+-- a round leaves as many parties
+pub rounds_long : (b : Bool) (m : Meaning) (n : ℕ) (s : Play) → n ≤ length s.table.parties → n ≤ length (rounded_as b m n s).table.parties
+rounds_long true m n s h = go (any (missed_all (length m.waits)) n (counted n s).table.parties) (counted n s)
+    (walks_long (λ _ (u : ℕ) p. missed p) (λ _ (u : ℕ) _. u) 1 n 0 s.table.parties n h)
+  where
+    go : (b : Bool) (s : Play) → n ≤ length s.table.parties → n ≤ length (settled_as b m n s).table.parties
+    go true s h = h
+    go false s h = walks_long _ _ 1 n s.log s.table.parties n h
+rounds_long false m n s h = h
+
 -- the whole group, over a run
 
 module _ (m : Meaning) (plan : Plan) (room : ℕ) where
@@ -408,15 +418,6 @@ module _ (m : Meaning) (plan : Plan) (room : ℕ) where
       root_idle (s.log ++ h ∷ []) (happens s.table.clock i Sent (length (s.log ++ h ∷ []))) (λ r. refl) ∙ root_idle s.log h (λ r. refl) ∙ e
   does_root (Leave i) s z e = root_idle s.log (happens s.table.clock i IsLeaving (length s.log)) (λ r. refl) ∙ e
 
-  rounds_long : (b : Bool) (s : Play) → plan.n ≤ length s.table.parties → plan.n ≤ length (rounded_as b m plan.n s).table.parties
-  rounds_long true s h = settles_long (any (missed_all (length m.waits)) plan.n (counted plan.n s).table.parties) (counted plan.n s)
-      (walks_long (λ _ (u : ℕ) p. missed p) (λ _ (u : ℕ) _. u) 1 plan.n 0 s.table.parties plan.n h)
-    where
-      settles_long : (b : Bool) (s : Play) → plan.n ≤ length s.table.parties → plan.n ≤ length (settled_as b m plan.n s).table.parties
-      settles_long true s h = h
-      settles_long false s h = walks_long _ _ 1 plan.n s.log s.table.parties plan.n h
-  rounds_long false s h = h
-
   set_long : (ps : List Party) (i : ℕ) (p : Party) → plan.n ≤ length ps → plan.n ≤ length (set ps i p)
   set_long ps i p h = omega (arith, length-set ps i p)
 
@@ -429,7 +430,7 @@ module _ (m : Meaning) (plan : Plan) (room : ℕ) where
   loses_long (Some b) i leg s h = set_long s.table.parties (i - 1) _ h
 
   does_long : (call : Call) (s : Play) → plan.n ≤ length s.table.parties → plan.n ≤ length (done m plan call s).table.parties
-  does_long Tick s h = walks_long _ _ 1 plan.n (rounded m plan.n s).log (rounded m plan.n s).table.parties plan.n (rounds_long (round_ends s.table) s h)
+  does_long Tick s h = walks_long _ _ 1 plan.n (rounded m plan.n s).log (rounded m plan.n s).table.parties plan.n (rounds_long (round_ends s.table) m plan.n s h)
   does_long (Deliver i leg) s h = delivers_long (on_leg leg (the i s.table)) i leg s h
   does_long (Lose i leg) s h = loses_long (on_leg leg (the i s.table)) i leg s h
   does_long (Crash zero) s h = h
@@ -441,7 +442,7 @@ module _ (m : Meaning) (plan : Plan) (room : ℕ) where
     does_party : (call : Call) (s : Play) → number plan room call s ≡ 0 → plan.n ≤ length s.table.parties →
         told_of plan.kind i s.log ≡ account_of (the i s.table) → told_of plan.kind i (done m plan call s).log ≡ account_of (the i (done m plan call s).table)
     does_party Tick s z long e =
-        timers plan.kind plan.n i lo hi (patience m plan.kind) m.tmin (trip m) (rounded m plan.n s) (rounds_long (round_ends s.table) s long)
+        timers plan.kind plan.n i lo hi (patience m plan.kind) m.tmin (trip m) (rounded m plan.n s) (rounds_long (round_ends s.table) m plan.n s long)
         (rounds plan.kind plan.n i lo hi (round_ends s.table) m s long e)
     does_party (Deliver j leg) s z long e = delivers plan.kind plan.n i lo hi (on_leg leg (the j s.table)) j leg s refl (asked_party plan.n j _ z).0 long e
     does_party (Lose j leg) s z long e = loses_one plan.kind plan.n i lo hi (on_leg leg (the j s.table)) j leg s (asked_party plan.n j _ z).0 long e

@@ -337,3 +337,11 @@ pub no_beat_of_the_root :
 no_beat_of_the_root μ sound plan room calls i lo hi e =
     let w = plays μ sound plan room true calls (opened μ plan) (opens μ sound plan room true) in
     step.no_beat_to_struck _ _ (law μ sound plan.kind plan.n) _ _ _ _ _ w.scene _ (w.each (i - 1) (omega arith)) e
+
+-- a beat on a leg may still arrive, and not for more than a trip
+pub last_ticks :
+    (μ : Meaning) → Lawful μ → (plan : Plan) (room : ℕ) (calls : List Call) (i leg : ℕ) (b : Beat) → 1 ≤ i → i ≤ plan.n →
+    let s = played μ plan room calls (opened μ plan) in on_leg leg (the i s.table) ≡ Some b → (s.table.clock ≤ b.last) × (b.last ≤ s.table.clock + trip μ)
+last_ticks μ sound plan room calls i leg b lo hi e =
+    let w = plays μ sound plan room true calls (opened μ plan) (opens μ sound plan room true) in
+    step.last_ticks _ _ (law μ sound plan.kind plan.n) _ _ _ _ _ w.scene _ (w.each (i - 1) (omega arith)) leg b e

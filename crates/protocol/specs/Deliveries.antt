@@ -53,7 +53,8 @@ pub record IsEdgeOf (m : Meaning) (plan : Plan) (room : ℕ) (calls : List Call)
   pub arrival : ArrivedBy log (reached m plan room calls).table.clock (receiver leg i) e.target
   -- which that very call wrote
   pub not_yet : length (reached m plan room calls).log ≤ e.target
-  pub written : e.target < length (perform m plan room (Deliver i leg) (reached m plan room calls)).log
+  pub written :
+      e.target < length (perform m plan room (Deliver i leg) (reached m plan room calls)).log
   -- its source is a sending by who sends on the leg
   pub sending : SentBy log (sender leg i) e.source
   -- of the beat that stood on the leg, put there by the call that wrote that sending

@@ -18,6 +18,7 @@ pub mod Deliveries
 pub mod Strikes
 pub mod Told
 pub mod Sendings
+pub mod Trips
 pub mod Kept
 pub mod Views
 pub mod Promise

@@ -14,6 +14,7 @@ use Rattle.protocol.specs.Deliveries.{EdgesAreTheDeliveries}
 use Rattle.protocol.specs.Sendings.{NoBeatVanishes}
 use Rattle.protocol.specs.Strikes.{StruckForGood}
 use Rattle.protocol.specs.Told.{TellsTheGroup}
+use Rattle.protocol.specs.Trips.{BeatsComeInTime}
 
 -- what is said of each call among the calls, and of those before it
 abbrev pub AtEachCall : List Call → (List Call → Call → Type 0) → Type 0
@@ -44,13 +45,19 @@ pub record KeepsTheRules (m : Meaning) (plan : Plan) (room : ℕ) (steps : List 
   pub no_sending_settles_twice : SendingsSettleOnce plan s
   -- no beat vanishes: each sending has arrived, is lost or is under way
   pub no_beat_vanishes : NoBeatVanishes plan s
+  -- a beat is under way for at most a trip
+  pub beats_come_in_time : BeatsComeInTime m plan s
   -- no call puts a beat on a leg that holds one
   pub sends_fall_on_free_legs : AtEachCall (map call_of steps) (SendsOnFreeLegs m plan room)
   -- from its striking on, a party is struck after each call, and no beat goes out to it
   pub struck_is_for_good : StruckForGood m plan room (map call_of steps)
-  -- the ticks of the log never fall, none is later than the clock, each record is of the root or a party of the plan, and the group never takes its log for another's
+  -- the ticks of the log never fall, none is later than the clock, each record is of the root or a
+  -- party of the plan, and the group never takes its log for another's
   pub log_in_order : LogInOrder plan s
-  -- the log tells where each party stands, when it last heard and whether it is on the roll, and how the root is
+  -- the log tells where each party stands, when it last heard and whether it is on the roll;
+  -- and how the root is
   pub log_tells_the_group : TellsTheGroup plan s
-  -- the edges of the log are the granted deliveries, in their order: from the sending that put the beat on its leg to its arrival
-  pub edges_are_the_granted_deliveries : EdgesAreTheDeliveries m plan room steps s.log (edges 0 s.log)
+  -- the edges of the log are the granted deliveries, in their order: each from the sending that put
+  -- the beat on its leg to its arrival
+  pub edges_are_the_granted_deliveries :
+      EdgesAreTheDeliveries m plan room steps s.log (edges 0 s.log)

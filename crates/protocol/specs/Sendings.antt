@@ -30,9 +30,11 @@ pub record UnderWay (n : ℕ) (t : Table) (k : ℕ) : Type 0 where
 
 abbrev pub NoBeatVanishes : Plan → Play → Type 0
 NoBeatVanishes plan s =
-    (k : ℕ) → k < length s.log → (happening_at s.log k).kind ≡ Sent → SettledAt s.log k ⊎ UnderWay plan.n s.table k
+    (k : ℕ) → k < length s.log → (happening_at s.log k).kind ≡ Sent →
+    SettledAt s.log k ⊎ UnderWay plan.n s.table k
 
 -- in every run each sending has arrived, is lost or is under way
 abbrev pub RunsLetNoBeatVanish : Type 0
 RunsLetNoBeatVanish =
-    (m : Meaning) → Lawful m → (plan : Plan) (room : ℕ) (calls : List Call) → NoBeatVanishes plan (reached m plan room calls)
+    (m : Meaning) → Lawful m → (plan : Plan) (room : ℕ) (calls : List Call) →
+    NoBeatVanishes plan (reached m plan room calls)

@@ -10,7 +10,7 @@ use Rattle.protocol.specs.Runs.{reached}
 abbrev pub IsStruck : ℕ → Play → Type 0
 IsStruck i s = (the i s.table).note.roll ≡ Struck
 
--- a party that is struck after some of the calls is struck after each later one, and no beat is sent to it
+-- a party struck after some of the calls is struck after each later one, and no beat is sent to it
 pub record StruckForGood (m : Meaning) (plan : Plan) (room : ℕ) (calls : List Call) : Type 0 where
   pub stays_struck :
       (before later after : List Call) (i : ℕ) → calls ≡ before ++ (later ++ after) →
@@ -24,4 +24,5 @@ pub record StruckForGood (m : Meaning) (plan : Plan) (room : ℕ) (calls : List 
 -- every run strikes its parties for good
 abbrev pub RunsStrikeForGood : Type 0
 RunsStrikeForGood =
-    (m : Meaning) → Lawful m → (plan : Plan) (room : ℕ) (calls : List Call) → StruckForGood m plan room calls
+    (m : Meaning) → Lawful m → (plan : Plan) (room : ℕ) (calls : List Call) →
+    StruckForGood m plan room calls

@@ -34,7 +34,8 @@ pub record Account : Type 0 where
   pub roll : Roll
 
 abbrev pub account : Standing → ℕ → Roll → Account
-account standing since roll = record { own = record { standing = standing; since = since }; roll = roll }
+account standing since roll =
+    record { own = record { standing = standing; since = since }; roll = roll }
 
 abbrev pub account_of : Party → Account
 account_of p = record { own = p.own; roll = p.note.roll }
@@ -93,7 +94,8 @@ root_as Leaving t r = r
 abbrev pub root_told : List Happening → Root
 root_told log = read (λ r h. root_as h.kind h.tick r) 0 Running log
 
--- the log tells of each party where it stands, when it last heard and whether it is on the roll, and how the root is
+-- the log tells where each party stands, when it last heard and whether it is on the roll;
+-- and how the root is
 pub record TellsTheGroup (plan : Plan) (s : Play) : Type 0 where
   pub party : (i : ℕ) → 1 ≤ i → i ≤ plan.n → told_of plan.kind i s.log ≡ account_of (the i s.table)
   pub root : root_told s.log ≡ s.table.root
@@ -101,4 +103,5 @@ pub record TellsTheGroup (plan : Plan) (s : Play) : Type 0 where
 -- the log of every run tells its group
 abbrev pub RunsTellTheirGroup : Type 0
 RunsTellTheirGroup =
-    (m : Meaning) → Lawful m → (plan : Plan) (room : ℕ) (calls : List Call) → TellsTheGroup plan (reached m plan room calls)
+    (m : Meaning) → Lawful m → (plan : Plan) (room : ℕ) (calls : List Call) →
+    TellsTheGroup plan (reached m plan room calls)

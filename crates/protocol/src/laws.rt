@@ -7,6 +7,7 @@ ghost use Rattle.protocol.specs.Rehearsals.{RunsCountTheirTicks};
 ghost use Rattle.protocol.specs.Sendings.{RunsLetNoBeatVanish};
 ghost use Rattle.protocol.specs.Strikes.{RunsStrikeForGood};
 ghost use Rattle.protocol.specs.Told.{RunsTellTheirGroup};
+ghost use Rattle.protocol.specs.Trips.{RunsBringBeatsInTime};
 
 // Every run of every group ends together and for cause.
 pub fn runs_end_together_for_cause()
@@ -36,6 +37,11 @@ pub fn runs_settle_each_sending_once()
 // No beat of a run vanishes: each sending has arrived, is lost or is under way.
 pub fn runs_let_no_beat_vanish()
     ensures { RunsLetNoBeatVanish }
+{}
+
+// A beat of a run is under way for at most a trip.
+pub fn runs_bring_beats_in_time()
+    ensures { RunsBringBeatsInTime }
 {}
 
 // Each beat of a run was put on its leg by the call that wrote the record of its sending.

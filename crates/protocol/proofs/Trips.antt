@@ -1,0 +1,229 @@
+-- A beat is under way for at most a trip.
+use Rattle.std.proofs.Common.{◌≡◌, ℕ, zero, suc, ◌+◌, ◌-◌, ◌<◌, ◌≤◌, Bool, true, false, cond, ◌||◌, eqb, leb, ◌⊎◌, List, [], ◌∷◌, ◌++◌, length, get_or, Some, None, unwrap_or, sym, refl, ap, ◌∙◌, subst, inl, inr, arith}
+use native.Mathlib.Decide.{dec_lt}
+use Rattle.std.proofs.lemmas.List.{append-nil, append_assoc}
+use Rattle.protocol.specs.declared.party.Party.{Party}
+use Rattle.protocol.specs.declared.party.Beat.{Beat}
+use Rattle.protocol.specs.declared.party.Stage.{Stage}
+use Rattle.protocol.specs.declared.party.Standing.{Standing}
+use Rattle.protocol.specs.declared.party.Standing.TheVariants.{Outside, Live, Ended}
+use Rattle.protocol.specs.declared.party.Roll.{Roll}
+use Rattle.protocol.specs.declared.party.Roll.TheVariants.{Off, On, Struck}
+use Rattle.protocol.specs.declared.happening.Happening.{Happening}
+use Rattle.protocol.specs.declared.plan.Plan.{Plan}
+use Rattle.protocol.specs.declared.call.Call.{Call}
+use Rattle.protocol.specs.declared.call.Call.TheVariants.{Tick, Deliver, Lose, Crash, Join, Leave}
+use Rattle.pace.specs.Meaning.{Meaning, Lawful}
+use Rattle.protocol.specs.Patience.{trip, patience}
+use Rattle.protocol.specs.Party.{beat, nobody, on_leg, missed, sends, sends_as, missed_all, times, times_as, times_live, calls_in}
+use Rattle.protocol.specs.Group.{Play, the, sender, any, counted, settled_as, rounded_as, rounded, round_ends, timed, opened}
+use Rattle.protocol.specs.Runs.{number, done, unless, perform, played, reached}
+use Rattle.protocol.specs.Rehearsals.{adds}
+use Rattle.protocol.specs.Beats.{is_arrival, is_loss, settles, happening_at, SentBy}
+use Rattle.protocol.specs.Sendings.{UnderWay}
+use Rattle.protocol.specs.Trips.{tick_at, RunsBringBeatsInTime}
+use Rattle.protocol.proofs.Clock.{rounded_clock}
+use Rattle.protocol.proofs.Lifts.{walks_long, walks_each}
+use Rattle.protocol.proofs.Logs.{after as logged_after, put_by, held}
+use Rattle.protocol.proofs.Runs.{played_snoc, played_cut}
+use Rattle.protocol.proofs.Told.{rounds_long}
+use Rattle.protocol.proofs.Records.{Grown, Wrote, does as writes, plays as grows}
+use Rattle.protocol.proofs.Ticks.{done_clock}
+use Rattle.protocol.proofs.Whole.{last_ticks}
+
+-- what a tick puts on the legs of one party, that was p₀ before
+
+-- each beat on a leg stood there before, or has that last tick
+abbrev Fresh : Party → ℕ → Party → Type 0
+Fresh p₀ last p = (leg : ℕ) (b : Beat) → on_leg leg p ≡ Some b → (on_leg leg p₀ ≡ Some b) ⊎ (b.last ≡ last)
+
+last_of : (d b : Beat) → Some d ≡ Some b → b.last ≡ d.last
+last_of d b e = ap (λ o. (unwrap_or o d).last) (sym e)
+
+sends_fresh : (roll : Roll) (p₀ : Party) (last place : ℕ) (p : Party) → Fresh p₀ last p → Fresh p₀ last (sends_as roll last place p)
+sends_fresh Off p₀ last place p f leg b e = f leg b e
+sends_fresh Struck p₀ last place p f leg b e = f leg b e
+sends_fresh On p₀ last place p f leg b e = go (eqb leg 1) e (f leg b)
+  where
+    go : (x : Bool) → cond x (Some (beat last false place)) (cond (eqb leg 2) p.legs.reply (cond (eqb leg 3) p.legs.entry None)) ≡ Some b →
+        (cond x p.legs.out (cond (eqb leg 2) p.legs.reply (cond (eqb leg 3) p.legs.entry None)) ≡ Some b → (on_leg leg p₀ ≡ Some b) ⊎ (b.last ≡ last)) →
+        (on_leg leg p₀ ≡ Some b) ⊎ (b.last ≡ last)
+    go true e old = inr (last_of (beat last false place) b e)
+    go false e old = old e
+
+live_fresh : (ends calls : Bool) (g : Stage) (p₀ : Party) (c last place : ℕ) (p : Party) → Fresh p₀ last p → Fresh p₀ last (times_live ends calls g c last place p)
+live_fresh true calls g p₀ c last place p f leg b e = f leg b e
+live_fresh false false g p₀ c last place p f leg b e = f leg b e
+live_fresh false true g p₀ c last place p f leg b e = go (eqb leg 1) (eqb leg 2) (eqb leg 3) e (f leg b)
+  where
+    go : (x y z : Bool) → cond x p.legs.out (cond y p.legs.reply (cond z (Some (beat last false place)) None)) ≡ Some b →
+        (cond x p.legs.out (cond y p.legs.reply (cond z p.legs.entry None)) ≡ Some b → (on_leg leg p₀ ≡ Some b) ⊎ (b.last ≡ last)) →
+        (on_leg leg p₀ ≡ Some b) ⊎ (b.last ≡ last)
+    go true y z e old = old e
+    go false true z e old = old e
+    go false false true e old = inr (last_of (beat last false place) b e)
+    go false false false e old = old e
+
+times_fresh : (st : Standing) (p₀ : Party) (c d l last place : ℕ) (p : Party) → Fresh p₀ last p → Fresh p₀ last (times_as st c d l last place p)
+times_fresh Outside p₀ c d l last place p f = f
+times_fresh (Live g) p₀ c d l last place p f = live_fresh (leb d (c - p.own.since)) (calls_in g l (c - p.own.since)) g p₀ c last place p f
+times_fresh (Ended how e g) p₀ c d l last place p f = f
+
+module _ (n k : ℕ) (h : k < n) (p₀ : Party) (m : Meaning) (c : ℕ) where
+  abbrev At : Play → Type 0
+  At s = Fresh p₀ (c + trip m) (get_or s.table.parties k nobody)
+
+  counts : (s : Play) → n ≤ length s.table.parties → At s → At (counted n s)
+  counts s long f = walks_each _ _ (Fresh p₀ (c + trip m)) (Fresh p₀ (c + trip m)) (λ _ (u : ℕ) p f. f) 1 n 0 s.table.parties nobody k h long f
+
+  settles_round : (b : Bool) (s : Play) → s.table.clock ≡ c → n ≤ length s.table.parties → At s → At (settled_as b m n s)
+  settles_round true s e long f = f
+  settles_round false s e long f =
+      walks_each _ _ (Fresh p₀ (c + trip m)) (Fresh p₀ (c + trip m))
+      (λ _ log p f. subst (λ x. Fresh p₀ (c + trip m) (sends (x + trip m) (length log) p)) (sym e) (sends_fresh p.note.roll p₀ (c + trip m) (length log) p f))
+      1 n s.log s.table.parties nobody k h long f
+
+  rounds : (b : Bool) (s : Play) → s.table.clock ≡ c → n ≤ length s.table.parties → At s → At (rounded_as b m n s)
+  rounds true s e long f =
+      settles_round (any (missed_all (length m.waits)) n (counted n s).table.parties) (counted n s) e
+      (walks_long (λ _ (u : ℕ) p. missed p) (λ _ (u : ℕ) _. u) 1 n 0 s.table.parties n long) (counts s long f)
+  rounds false s e long f = f
+
+  timers : (d l : ℕ) (s : Play) → s.table.clock ≡ c → n ≤ length s.table.parties → At s → At (timed d l (trip m) n s)
+  timers d l s e long f =
+      walks_each _ _ (Fresh p₀ (c + trip m)) (Fresh p₀ (c + trip m))
+      (λ _ log p f. subst (λ x. Fresh p₀ (c + trip m) (times x d l (x + trip m) (length log) p)) (sym e) (times_fresh p.own.standing p₀ c d l (c + trip m) (length log) p f))
+      1 n s.log s.table.parties nobody k h long f
+
+module _ (m : Meaning) (sound : Lawful m) (plan : Plan) (room : ℕ) where
+  performed : (call : Call) (s : Play) → number plan room call s ≡ 0 → perform m plan room call s ≡ done m plan call s
+  performed call s z = ap (λ k. unless k s (done m plan call s)) z
+
+  -- a call that is no tick leaves the clock
+  later : (before : List Call) (call : Call) (i leg : ℕ) (b : Beat) → let s = reached m plan room before in
+      number plan room call s ≡ 0 → 1 ≤ i → i ≤ plan.n → on_leg leg (the i (done m plan call s).table) ≡ Some b → adds call true ≡ 0 →
+      b.last ≤ s.table.clock + trip m
+  later before call i leg b z lo hi e still =
+      let s = reached m plan room before in
+      let same = played_snoc m plan room before call (opened m plan) ∙ performed call s z in
+      let f = last_ticks m sound plan room (before ++ call ∷ []) i leg b lo hi (subst (λ (t : Play). on_leg leg (the i t.table) ≡ Some b) (sym same) e) in
+      omega (arith, f.1, ap (λ (t : Play). t.table.clock) same, done_clock m plan call s, still)
+
+  -- a beat that a granted call has put on a leg comes no later than a trip after the call
+  puts : (before : List Call) (call : Call) (i leg : ℕ) (b : Beat) → let s = reached m plan room before in
+      number plan room call s ≡ 0 → 1 ≤ i → i ≤ plan.n → on_leg leg (the i (done m plan call s).table) ≡ Some b →
+      (on_leg leg (the i s.table) ≡ Some b) ⊎ (b.last ≤ s.table.clock + trip m)
+  puts before Tick i leg b z lo hi e =
+      let s = reached m plan room before in
+      let long = (logged_after m plan room before).0.long in
+      let ends = round_ends s.table in
+      let same = rounded_clock m plan.n ends s in
+      let p₀ = get_or s.table.parties (i - 1) nobody in
+      elim (timers plan.n (i - 1) (omega arith) p₀ m s.table.clock (patience m plan.kind) m.tmin (rounded m plan.n s) same (rounds_long ends m plan.n s long)
+      (rounds plan.n (i - 1) (omega arith) p₀ m s.table.clock ends s refl long (λ leg b e. inl e)) leg b e)
+      [ inl old ↦ inl old | inr new ↦ inr (omega (arith, new)) ]
+  puts before (Deliver j l) i leg b z lo hi e = inr (later before (Deliver j l) i leg b z lo hi e refl)
+  puts before (Lose j l) i leg b z lo hi e = inr (later before (Lose j l) i leg b z lo hi e refl)
+  puts before (Crash j) i leg b z lo hi e = inr (later before (Crash j) i leg b z lo hi e refl)
+  puts before (Join j) i leg b z lo hi e = inr (later before (Join j) i leg b z lo hi e refl)
+  puts before (Leave j) i leg b z lo hi e = inr (later before (Leave j) i leg b z lo hi e refl)
+
+  -- the last tick of a beat on a leg, by its sending
+
+  module _ (calls : List Call) (i leg : ℕ) (b : Beat) (lo : 1 ≤ i) (hi : i ≤ plan.n) where
+    written_at : (before : List Call) (call : Call) (k : ℕ) → let now = reached m plan room before in
+        number plan room call now ≡ k → length now.log ≤ b.place →
+        SentBy (unless k now (done m plan call now)).log (sender leg i) b.place → on_leg leg (the i (unless k now (done m plan call now)).table) ≡ Some b →
+        b.last ≤ tick_at (unless k now (done m plan call now)).log b.place + trip m
+    written_at before call zero z not_yet written put =
+        elim (puts before call i leg b z lo hi put) [
+          | inl old ↦ absurd (omega (arith, (held m plan room before i leg b lo hi old).below))
+          | inr new ↦ omega (arith, new, ((writes m plan room call (reached m plan room before) z).fresh b.place not_yet written.below).1)
+        ]
+    written_at before call (suc k) z not_yet written put = absurd (omega (arith, (held m plan room before i leg b lo hi put).below))
+
+    last_after_sending : on_leg leg (the i (reached m plan room calls).table) ≡ Some b → b.last ≤ tick_at (reached m plan room calls).log b.place + trip m
+    last_after_sending e =
+        let p = put_by m plan room calls i leg b lo hi e in
+        let now = reached m plan room p.before in
+        let then = perform m plan room p.call now in
+        let near = written_at p.before p.call (number plan room p.call now) refl p.not_yet p.written p.put in
+        let kept = (grows m plan room p.after then).kept b.place p.written.below in
+        let same : reached m plan room calls ≡ played m plan room p.after then =
+        ap (λ cs. reached m plan room cs) p.among ∙ played_cut m plan room p.before p.call p.after (opened m plan) in
+        omega (arith, near, ap (λ (h : Happening). h.tick) kept, ap (λ (t : Play). tick_at t.log b.place) same)
+
+  -- arrivals and losses
+
+  abbrev InTime : List Happening → Type 0
+  InTime log = (k : ℕ) → k < length log → settles (happening_at log k).kind ≡ true → tick_at log k ≤ tick_at log (happening_at log k).link + trip m
+
+  -- an arrival or a loss links to an earlier place
+  linked_before : (calls : List Call) → let log = (reached m plan room calls).log in
+      (k : ℕ) → k < length log → settles (happening_at log k).kind ≡ true → (happening_at log k).link < k
+  linked_before calls k below is =
+      let log = (reached m plan room calls).log in
+      let t = (logged_after m plan room calls).0 in
+      go (is_arrival (happening_at log k).kind) (is_loss (happening_at log k).kind) (λ e. (t.linked k below e).earlier) (λ e. (t.losses k below e).earlier) is
+    where
+      go : (x y : Bool) → (x ≡ true → (happening_at (reached m plan room calls).log k).link < k) → (y ≡ true → (happening_at (reached m plan room calls).log k).link < k) →
+          (x || y) ≡ true → (happening_at (reached m plan room calls).log k).link < k
+      go true y f g e = f refl
+      go false true f g e = g refl
+      go false false f g e = absurd (grind arith)
+
+  module _ (before : List Call) where
+    abbrev now : Play
+    now = reached m plan room before
+
+    abbrev Writes : List Happening → Type 0
+    Writes = Grown (Wrote plan.n now.table.clock (UnderWay plan.n now.table)) now.log
+
+    -- a record that stood there
+    earlier : (log : List Happening) (k : ℕ) → Writes log → InTime now.log → k < length now.log → settles (happening_at log k).kind ≡ true →
+        tick_at log k ≤ tick_at log (happening_at log k).link + trip m
+    earlier log k g old early is =
+        let e = g.kept k early in
+        let is' : settles (happening_at now.log k).kind ≡ true = ap (λ (h : Happening). settles h.kind) (sym e) ∙ is in
+        let f = g.kept (happening_at now.log k).link (omega (arith, linked_before before k early is')) in
+        let same : tick_at log (happening_at log k).link ≡ tick_at now.log (happening_at now.log k).link =
+        ap (λ (h : Happening). tick_at log h.link) e ∙ ap (λ (h : Happening). h.tick) f in
+        omega (arith, old k early is', ap (λ (h : Happening). h.tick) e, same)
+
+    -- a new one, of a beat that was under way
+    latest : (log : List Happening) (h : Happening) → Writes log → Wrote plan.n now.table.clock (UnderWay plan.n now.table) h → settles h.kind ≡ true →
+        h.tick ≤ tick_at log h.link + trip m
+    latest log h g w is =
+        let u = w.2 is in
+        let b = u.beat in
+        let last = last_ticks m sound plan room before u.party u.leg b u.of_a_party.0 u.of_a_party.1 u.stands in
+        let near = last_after_sending before u.party u.leg b u.of_a_party.0 u.of_a_party.1 u.stands in
+        let below = (held m plan room before u.party u.leg b u.of_a_party.0 u.of_a_party.1 u.stands).below in
+        let same : tick_at log h.link ≡ tick_at now.log b.place =
+        ap (tick_at log) (sym u.sent_there) ∙ ap (λ (x : Happening). x.tick) (g.kept b.place below) in
+        omega (arith, w.1, last.0, near, same)
+
+    settles_in_time : (call : Call) (k : ℕ) → number plan room call now ≡ k → InTime now.log → InTime (unless k now (done m plan call now)).log
+    settles_in_time call zero z old k below is =
+        let log = (done m plan call now).log in
+        let g = writes m plan room call now z in
+        elim (dec_lt k (length now.log)) [
+          | yes early ↦ earlier log k g old early is
+          | no late ↦ latest log (happening_at log k) g (g.fresh k (omega arith) below) is
+        ]
+    settles_in_time call (suc j) z old k below is = old k below is
+
+  plays : (before later : List Call) → InTime (reached m plan room before).log → InTime (reached m plan room (before ++ later)).log
+  plays before [] a = subst (λ calls. InTime (reached m plan room calls).log) (sym (append-nil before)) a
+  plays before (call ∷ later) a =
+      let s = reached m plan room before in
+      let next = settles_in_time before call (number plan room call s) refl a in
+      subst (λ calls. InTime (reached m plan room calls).log) (append_assoc before (call ∷ []) later)
+      (plays (before ++ call ∷ []) later (subst (λ (t : Play). InTime t.log) (sym (played_snoc m plan room before call (opened m plan))) next))
+
+pub in_time : RunsBringBeatsInTime
+in_time m sound plan room calls = record {
+  settled = plays m sound plan room [] calls (λ k below. absurd (omega arith));
+  under_way = λ i leg b lo hi e.
+      ((last_ticks m sound plan room calls i leg b lo hi e).0, last_after_sending m sound plan room calls i leg b lo hi e);
+}
