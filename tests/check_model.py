@@ -11,7 +11,7 @@ import sys
 import check_graphml
 import model
 import schedules
-from model import CLOSED, CRASH, DELIVER, EXPANDING, HALVING, JOIN, LOSE
+from model import CLOSED, CRASH, DELIVER, DYNAMIC, EXPANDING, HALVING, JOIN, LOSE
 from schedules import Script
 
 
@@ -76,6 +76,24 @@ def test_joiner_that_nobody_hears_stops_at_12():
     run.until(20, kind=LOSE)
     assert happenings(run.group, "sent") == [(t, 1) for t in (0, 2, 4, 6, 8, 10)]
     assert happenings(run.group, "stopped") == [(12, 1)]
+
+
+def test_late_joining_beat_enrols_no_struck_party():
+    group = model.Group(DYNAMIC, 1, 2, 2, [2])
+    group.tick()
+    group.join(1)
+    group.deliver(1, 3)
+    while group.clock < 4:
+        group.tick()
+    group.deliver(1, 1)
+    group.deliver(1, 2)
+    group.leave(1)
+    group.tick()
+    group.deliver(1, 1)
+    group.deliver(1, 2)
+    assert happenings(group, "struck") == [(5, 1)]
+    group.deliver(1, 3)
+    assert (group.log[-1].word, group.parties[1].roll) == ("arrived", "struck")
 
 
 def test_rounds_last_tmax_while_nobody_is_on_the_roll():
@@ -143,6 +161,103 @@ def test_promises_on_drawn_runs():
             run.refusal = None
         undisturbed = not any(h.word in ("lost", "crashed") for h in run.group.log)
         check_promises(run.group, undisturbed)
+
+
+class Watch:
+    """Stands on a group's calls: who put each beat on a leg, and what each granted delivery was of."""
+
+    def __init__(self, group):
+        self.group, self.deliveries, self.struck = group, [], set()
+        self.sent_by = {}       # (party, leg) -> the beat on it, and the places of the log that the call wrote
+        for name in ("tick", "deliver", "lose", "crash", "join", "leave"):
+            setattr(group, name, lambda *words, name=name, call=getattr(group, name): self.make(name, call, *words))
+
+    def make(self, name, call, *words):
+        group = self.group
+        clock, places = group.clock, len(group.log)
+        stood = {(i, leg): beat for i, party in group.parties.items() for leg, beat in party.legs.items()}
+        call(*words)
+        if name == "deliver":
+            self.deliveries.append((clock, words, stood[words], self.sent_by[words], places))
+        for i, party in group.parties.items():
+            for leg, beat in party.legs.items():
+                if beat is not stood[i, leg] and beat is not None:
+                    assert stood[i, leg] is None or (i, leg) == words
+                    self.sent_by[i, leg] = beat, range(places, len(group.log))
+        self.struck |= {i for i, party in group.parties.items() if party.roll == "struck"}
+        for i in self.struck:
+            party = group.parties[i]
+            assert party.roll == "struck", "a struck party is struck no more"
+            assert party.legs[1] is None and party.legs[2] is None, "a beat is sent to a struck party"
+
+
+def check_deliveries(watch):
+    log = watch.group.log
+    edges = [(h.link, place) for place, h in enumerate(log) if h.word == "arrived"]
+    assert len(edges) == len(watch.deliveries), "not as many edges as granted deliveries"
+    for (source, target), (clock, (i, leg), beat, (put, places), before) in zip(edges, watch.deliveries):
+        assert 1 <= i <= watch.group.n and 1 <= leg <= 3
+        assert target == before, "the arrival is not the first record of its call"
+        assert (log[target].tick, log[target].owner) == (clock, i if leg == 1 else 0)
+        assert (log[source].word, log[source].owner) == ("sent", 0 if leg == 1 else i)
+        assert beat is put and beat.sent_at == source and source in places, "another beat was delivered"
+    assert all(0 <= h.owner <= watch.group.n for h in log)
+    for i in range(watch.group.n + 1):
+        words = [h.word for h in log if h.owner == i]
+        assert words.count("struck") == (i in watch.struck)
+
+
+def check_sendings(group):
+    settled = sorted(h.link for h in group.log if h.word in ("arrived", "lost"))
+    under_way = sorted(beat.sent_at for party in group.parties.values() for beat in party.legs.values() if beat)
+    assert sorted(settled + under_way) == [k for k, h in enumerate(group.log) if h.word == "sent"]
+    assert all(h.tick <= group.log[h.link].tick + group.tmin for h in group.log)
+
+
+def told(log, owner, party):
+    """Makes of a party, or of the root as party 0, what the records of the log that it owns tell."""
+    ends = ("crashed", "stopped", "left")
+    for h in log:
+        if h.owner != owner:
+            continue
+        if h.word in ends:
+            party.state_before, party.state, party.ended_at = party.state, h.word, h.tick
+        elif h.word == "joining":
+            party.state, party.last_heard = "joining", h.tick
+        elif h.word == "leaving":
+            party.state = "leaving"
+        elif h.word == "enrolled":
+            party.roll = "on"
+        elif h.word == "struck":
+            party.roll = "struck"
+        elif h.word == "arrived" and party.state in model.LIVE:
+            party.last_heard = h.tick
+            party.state = {"joining": "in"}.get(party.state, party.state)
+    return party
+
+
+def check_told(group):
+    fresh = model.Group(group.kind, group.n, group.tmin, group.tmax, group.waits)
+    for i, party in group.parties.items():
+        read = told(group.log, i, fresh.parties[i])
+        for field in ("state", "state_before", "ended_at", "last_heard", "roll"):
+            assert getattr(read, field) == getattr(party, field), (i, field)
+    root = told(group.log, 0, model.Party("running", "off"))
+    assert (root.state, root.ended_at) == (group.root, group.root_ended_at)
+
+
+def test_what_the_logs_of_drawn_runs_tell():
+    rng = random.Random(5)
+    deliveries = struck = 0
+    for _ in range(400):
+        start, orders = model.read(schedules.draw_run(rng).data)
+        watch = Watch(model.open_group(start))
+        model.play(watch.group, orders)
+        check_deliveries(watch)
+        check_sendings(watch.group)
+        check_told(watch.group)
+        deliveries, struck = deliveries + len(watch.deliveries), struck + len(watch.struck)
+    assert deliveries > 10_000 and struck > 50, (deliveries, struck)
 
 
 def test_passing_over_quiet_ticks_changes_nothing():

@@ -11,7 +11,7 @@ From the repository's root, once tools/build.sh has built the programs:
 - it also plays two of the examples cut short at every byte, and with each byte damaged;
 - each examples/*.txt composes to the order file beside it;
 - compose writes those bytes too, of each text without damaged records, and of the texts of
-  drawn files; of a text that is wrong it writes none, and tells the line and what is wrong there;
+  drawn files; of a text that is wrong it writes none, and tells the line, the number and what is wrong there;
 - the walkthrough runs without input, and the file it prints last is read too.
 """
 
@@ -30,16 +30,18 @@ SECONDS = 60
 SPOILT = ["two-parties-one-crashes", "dynamic-group-with-a-leaver"]
 
 START = b"closed 2 halving 1 10 cap 64\n"
-MISSING = "a word is missing"
-UNKNOWN = "a word is not known here"
-NO_NUMBER = "a number has a byte that is no digit"
-TOO_LARGE = "a number is too large"
-TOO_MANY = "a word too many"
-EARLIER = "the tick is before that of the order before"
-NO_SLOT = "more orders than there is room for"
-NO_START = "no start"
 
-# A text that is wrong, the line of the complaint, and its words.
+# A complaint's number and its words.
+MISSING = (15, "a word is missing")
+TOO_MANY = (15, "a word too many")
+NO_START = (15, "no start")
+UNKNOWN = (16, "a word is not known here")
+NO_NUMBER = (16, "a number has a byte that is no digit")
+TOO_LARGE = (16, "a number is too large")
+NO_SLOT = (12, "more orders than there is room for")
+EARLIER = (14, "the tick is before that of the order before")
+
+# A text that is wrong, the line of the complaint, and the complaint.
 WRONG_TEXTS = [
     (b"", 1, NO_START),
     (b"# nothing but a comment", 2, NO_START),
@@ -145,10 +147,11 @@ def check_compose(text, wanted):
     return None
 
 
-def check_complaint(text, line, words):
+def check_complaint(text, line, complaint):
     """None, or what is wrong with what compose tells of a wrong text."""
+    number, words = complaint
     done = run_whole("compose", text)
-    wanted = f"line {line}: {words}\n".encode()
+    wanted = f"refused line {line} number {number}: {words}\n".encode()
     if (done.returncode, done.stdout, done.stderr) != (1, b"", wanted):
         return f"exit status {done.returncode}, {len(done.stdout)} bytes, {done.stderr!r} for {wanted!r}"
     return None
@@ -170,8 +173,8 @@ def compose_checks(drawn):
             yield f"compose {name}", check_compose(text, schedules.compose(text.decode()))
     for place, (text, same) in enumerate(EVEN_TEXTS):
         yield f"compose even text {place}", check_compose(text, schedules.compose(same.decode()))
-    for text, line, words in WRONG_TEXTS:
-        yield f"compose {text[:60]!r}", check_complaint(text, line, words)
+    for text, line, complaint in WRONG_TEXTS:
+        yield f"compose {text[:60]!r}", check_complaint(text, line, complaint)
     yield "compose a text that is too long", check_too_long()
     for place, data in enumerate(drawn):
         text = readable(data)

@@ -5,6 +5,12 @@ mod Loops
 mod Steps
 mod Party
 mod Whole
-mod Nesting
-pub mod Edges
+mod Ending
+pub mod Digits
+pub mod Scanned
+pub mod Shapes
+pub mod Growing
+pub mod Told
+pub mod Found
 pub mod Shown
+pub mod Once

@@ -1,39 +1,30 @@
 -- The file of a run out of what the export promises of it.
-use Rattle.std.proofs.Common.{◌≡◌, ℕ, ◌-◌, Bool, true, false, cond, List, map, length, take, IfOk, Ok, Err, Result, ap, ◌∙◌, subst}
-use Rattle.pace.specs.Meaning.{Meaning}
+use Rattle.std.proofs.Common.{◌≡◌, ℕ, ◌-◌, Bool, true, false, cond, List, length, take, IfOk, Err, Result, ap, ◌∙◌, subst}
 use Rattle.protocol.specs.declared.plan.Plan.{Plan}
-use Rattle.protocol.specs.declared.call.Step.{Step}
-use Rattle.protocol.specs.Group.{Play, opened}
-use Rattle.protocol.specs.Beats.{Edge, edges, deliveries}
+use Rattle.protocol.specs.Group.{Play}
 use Rattle.protocol.specs.Order.{LogInOrder}
 use Rattle.protocol.proofs.Own.{own_log}
-use Rattle.protocol.specs.Rehearsals.{call_of}
 use Rattle.graphml.specs.declared.answer.Exported.{Exported}
 use Rattle.graphml.specs.declared.answer.Refusal.{Refusal}
 use Rattle.graphml.specs.declared.answer.Refusal.TheVariants.{LogDiffers}
-use Rattle.graphml.specs.Cut.{tags, EndsAt}
+use Rattle.graphml.specs.Cut.{EndsAt}
 use Rattle.graphml.specs.Body.{body}
-use Rattle.graphml.specs.Edges.{edges_among}
-use Rattle.graphml.specs.Nested.{WellNested}
-use Rattle.graphml.specs.Answer.{part, exported, written}
+use Rattle.graphml.specs.Closing.{Closes}
+use Rattle.graphml.specs.Log.{ShowsTheLog}
+use Rattle.graphml.specs.Answer.{in_frame, exported, written}
 use Rattle.graphml.specs.Export.{export_answer, export_bytes}
 use Rattle.graphml.specs.Shown.{ShowsTheRun}
 
--- where the arrivals of the log are the deliveries, so are the edges of a whole file
-follow : {es fs : List Edge} (r : Result Exported Refusal) (f : Exported → List Edge) → es ≡ fs →
-    IfOk r (λ x. x.whole ≡ true → f x ≡ es) → IfOk r (λ x. x.whole ≡ true → f x ≡ fs)
-follow (Ok x) f e h = λ whole. h whole ∙ e
-follow (Err y) f e h = tt
-
 -- the export was made of a group whose plan is the run's
 pub shows :
-    (m : Meaning) (plan : Plan) (room : ℕ) (steps : List Step) (s : Play) (out out' : List ℕ) (r : Result Exported Refusal) (p : Plan) → p ≡ plan →
-    edges 0 s.log ≡ deliveries m plan room (map call_of steps) (opened m plan) →
+    (plan : Plan) (s : Play) (out out' : List ℕ) (r : Result Exported Refusal) (p : Plan) → p ≡ plan →
     LogInOrder plan s → r ≡ export_answer s p.n (length out) → out' ≡ export_bytes s p.n out →
-    IfOk r (λ x. WellNested (take x.bytes out')) → IfOk r (λ x. x.whole ≡ false → EndsAt (length out - 275) (body s.log p.n)) →
-    IfOk r (λ x. x.whole ≡ true → edges_among (tags (part s.log p.n (length out))) ≡ edges 0 s.log) →
-    ShowsTheRun m plan room steps s out out' r
-shows m plan room steps s out out' r p same ran order answer bytes nested cut edged =
+    IfOk r (λ x. x.whole ≡ true → take x.bytes out' ≡ in_frame (body s.log p.n)) →
+    IfOk r (λ x. x.whole ≡ false → EndsAt (length out - 275) (body s.log p.n)) →
+    IfOk r (λ x. Closes (take x.bytes out')) →
+    IfOk r (λ x. ShowsTheLog p.n s.log x (take x.bytes out')) →
+    ShowsTheRun plan s out out' r
+shows plan s out out' r p same order answer bytes whole cut closes shown =
     let mine = own_log plan s order in
     record {
       answer_as_defined =
@@ -41,9 +32,8 @@ shows m plan room steps s out out' r p same ran order answer bytes nested cut ed
           ∙ ap (λ (b : Bool). cond b (exported s.log plan.n (length out)) (Err LogDiffers)) mine;
       bytes_as_defined =
           bytes ∙ ap (λ (q : Plan). export_bytes s q.n out) same ∙ ap (λ (b : Bool). cond b (written s.log plan.n out) out) mine;
-      closed_inner_before_outer = nested;
+      whole_as_defined = subst (λ (q : Plan). IfOk r (λ x. x.whole ≡ true → take x.bytes out' ≡ in_frame (body s.log q.n))) same whole;
       cut_at_the_first_that_does_not_fit = subst (λ (q : Plan). IfOk r (λ x. x.whole ≡ false → EndsAt (length out - 275) (body s.log q.n))) same cut;
-      edges_are_the_deliveries =
-          follow r (λ _. edges_among (tags (part s.log plan.n (length out)))) ran
-          (subst (λ (q : Plan). IfOk r (λ x. x.whole ≡ true → edges_among (tags (part s.log q.n (length out))) ≡ edges 0 s.log)) same edged);
+      closes = closes;
+      shows_the_log = subst (λ (q : Plan). IfOk r (λ x. ShowsTheLog q.n s.log x (take x.bytes out'))) same shown;
     }

@@ -1,25 +1,31 @@
 -- The whole file, with its frame.
-use Rattle.std.proofs.Common.{◌≡◌, ℕ, ◌+◌, ◌-◌, ◌≤◌, Bool, true, cond, leb, List, ◌++◌, length, take, drop, Ok, Err, Result, sym, refl, ap, ◌∙◌, subst, zero-add, arith, length-append, le-leb, leb-true}
-use Rattle.std.proofs.lemmas.List.{take_at, append-nil}
+use Rattle.std.proofs.Common.{◌≡◌, ℕ, ◌+◌, ◌-◌, ◌^◌, ◌<◌, ◌≤◌, Bool, true, cond, leb, List, ◌++◌, length, take, drop, Some, Option, Ok, Err, Result, sym, refl, ap, ◌∙◌, subst, subst₂, zero-add, arith, length-append, le-leb, leb-true}
+use Rattle.std.specs.List.{flat_map, All}
+use Rattle.std.proofs.lemmas.List.{take_at, length-map}
 use Rattle.protocol.specs.declared.happening.Happening.{Happening}
+use Rattle.protocol.specs.Beats.{edges}
 use Rattle.text.specs.Bytes.{placed}
 use Rattle.text.proofs.Placed.{reached}
 use Rattle.graphml.specs.declared.answer.Exported.{Exported}
 use Rattle.graphml.specs.declared.answer.Refusal.{Refusal}
 use Rattle.graphml.specs.declared.answer.Refusal.TheVariants.{ShortOutput}
 use Rattle.graphml.specs.Texts.{head, tail}
-use Rattle.graphml.specs.Elements.{Forest, element, none, run, render}
-use Rattle.graphml.specs.Cut.{all_fits, tags}
+use Rattle.graphml.specs.Elements.{Forest, render}
+use Rattle.graphml.specs.Cut.{all_fits}
 use Rattle.graphml.specs.Body.{body}
 use Rattle.graphml.specs.Counts.{count, is_happening, is_edge}
-use Rattle.protocol.specs.Beats.{edges}
-use Rattle.graphml.specs.Edges.{edges_among}
-use Rattle.graphml.specs.Nested.{WellNested}
+use Rattle.graphml.specs.Numbers.{Each, Fits}
+use Rattle.graphml.specs.Closing.{Closes}
+use Rattle.graphml.specs.Reading.{Item, items_read, happening_of, place_of, places_read, edge_of, edges_read, parties_read}
+use Rattle.graphml.specs.Log.{items_of, OwnersWithin, times, HasBothEnds, all_read, ShowsTheLog}
 use Rattle.graphml.specs.Answer.{in_frame, part, over, written, summary, exported}
 use Rattle.graphml.specs.State.{State, wrote, drawn}
 use Rattle.graphml.proofs.Forests.{kept_le, kept_whole, length_render}
-use Rattle.graphml.proofs.Nesting.{well_nested}
-use Rattle.graphml.proofs.Edges.{edge_tags}
+use Rattle.graphml.proofs.Shapes.{in_run, kept_shaped, kept_each, body_shaped}
+use Rattle.graphml.proofs.Growing.{Framed}
+use Rattle.graphml.proofs.Told.{things, frame_told, all_counted, edges_counted, first_taken}
+use Rattle.graphml.proofs.Once.{places_once, ends_found}
+use Rattle.graphml.proofs.Found.{part_closes, body_framed, body_is, edges_found, happenings_found, parties_found, keys_found}
 
 pub length_head : length head ≡ 255
 unfolding head
@@ -78,16 +84,53 @@ module _ (out : List ℕ) (log : List Happening) (n : ℕ) (h : 275 ≤ length o
   front : {out' : List ℕ} {k : ℕ} → out' ≡ over text out → k ≡ length text → take k out' ≡ text
   front e f = (λ i. take (f i) (e i)) ∙ take_at text (drop (length text) out) (length text) refl
 
-  pub nested : {out' : List ℕ} {k : ℕ} → out' ≡ over text out → k ≡ length text → WellNested (take k out')
-  nested e f = subst WellNested (sym (front e f ∙ sym (append-nil text))) (well_nested (element run fit none))
+  pub closes : {out' : List ℕ} {k : ℕ} → out' ≡ over text out → k ≡ length text → Closes (take k out')
+  closes e f = subst Closes (sym (front e f)) (part_closes log n (length out - 275))
+
+  abbrev whole : Bool
+  whole = all_fits (length out - 275) (body log n)
 
   -- all of it was written
-  module _ (w : all_fits (length out - 275) (body log n) ≡ true) where
-    all_kept : fit ≡ body log n
-    all_kept = kept_whole (length out - 275) (body log n) (leb-true _ _ w)
+  all_kept : whole ≡ true → fit ≡ body log n
+  all_kept w = kept_whole (length out - 275) (body log n) (leb-true _ _ w)
 
-    pub whole_text : {out' : List ℕ} {k : ℕ} → out' ≡ over text out → k ≡ length text → take k out' ≡ in_frame (body log n)
-    whole_text e f = front e f ∙ ap in_frame all_kept
+  pub whole_text : {out' : List ℕ} {k : ℕ} → whole ≡ true → out' ≡ over text out → k ≡ length text → take k out' ≡ in_frame (body log n)
+  whole_text w e f = front e f ∙ ap in_frame (all_kept w)
 
-    pub whole_edges : edges_among (tags fit) ≡ edges 0 log
-    whole_edges = ap (λ x. edges_among (tags x)) all_kept ∙ edge_tags log n
+  -- where the numbers written are numbers of 64 bits
+  module _ (small : n < 2 ^ 64) (fits : Each Fits fit) where
+    told : items_read text ≡ all_read (things 0 fit)
+    told =
+        frame_told fit (kept_each Framed (length out - 275) (body log n) (body_framed log n)) (kept_shaped in_run (length out - 275) (body log n) (body_shaped log n)) fits
+
+    first : things 0 fit ≡ take (count is_happening fit + count is_edge fit) (items_of n log)
+    first = first_taken 0 (length out - 275) (body log n) ∙ (λ i. take (all_counted 0 fit i) (body_is log n i))
+
+    all_told : whole ≡ true → items_read text ≡ all_read (items_of n log)
+    all_told w = told ∙ ap all_read (ap (things 0) (all_kept w) ∙ body_is log n)
+
+    all_edges : whole ≡ true → edges_read text ≡ all_read (edges 0 log)
+    all_edges w = ap (flat_map edge_of) (all_told w) ∙ edges_found n log
+
+    once_each : whole ≡ true → OwnersWithin n log → (k : ℕ) → k < length log → times k (places_read text) ≡ 1
+    once_each w within k here = ap (λ (l : List (Option Item)). times k (flat_map place_of l)) (all_told w) ∙ places_once n log within k here
+
+    -- of the answer to it
+    shown_text : ShowsTheLog n log (summary fit whole) text
+    shown_text = record {
+      first_part = told ∙ ap all_read first;
+      all_counted = ap (λ (l : List (Option Item)). length l) told ∙ length-map (things 0 fit) (λ x. Some x) ∙ all_counted 0 fit;
+      edges_counted = ap (λ (l : List (Option Item)). length (flat_map edge_of l)) told ∙ edges_counted 0 fit;
+      keys = keys_found fit (kept_each Framed (length out - 275) (body log n) (body_framed log n));
+      parties = λ w. ap (λ g. parties_read (in_frame g)) (all_kept w) ∙ parties_found log n small;
+      happenings = λ w i h. ap (flat_map (happening_of i)) (all_told w) ∙ happenings_found n log i h;
+      edges = all_edges;
+      no_others = all_told;
+      each_place_once = once_each;
+      edges_have_both_ends = λ w within linked. subst (All (HasBothEnds text)) (sym (all_edges w)) (ends_found text log (once_each w within) n linked);
+    }
+
+    pub shown : {out' : List ℕ} {lent : ℕ} {u : State} {r : Bool} → out' ≡ over text out → Finished lent u → r ≡ whole →
+        ShowsTheLog n log (record { bytes = u.at; happenings = u.happenings; edges = u.edges; whole = r }) (take u.at out')
+    shown {out'} {lent} {u} {r} e f w =
+        subst₂ (ShowsTheLog n log) (sym (λ i. record { bytes = f.at i; happenings = f.happenings i; edges = f.edges i; whole = w i })) (sym (front e f.at)) shown_text

@@ -3,9 +3,13 @@ pub mod Elements
 pub mod Cut
 pub mod Body
 pub mod Counts
-pub mod Edges
-pub mod Nested
+pub mod Numbers
+pub mod Marks
+pub mod Closing
+pub mod Reading
+pub mod Log
 pub mod Answer
 pub mod State
+pub mod Samples
 pub mod Export
 pub mod Shown

@@ -4,7 +4,8 @@
 ghost use Rattle.std.specs.Prelude.{◌≡◌, is_ok, if◌then◌else◌};
 ghost use Rattle.graphml.specs.Texts.{head, tail, node_line, node_end, graph_line, graph_end};
 ghost use Rattle.graphml.specs.Elements.{one, happened, edge};
-ghost use Rattle.graphml.specs.Cut.{all_fits};
+ghost use Rattle.graphml.specs.Cut.{all_fits, kept};
+ghost use Rattle.graphml.specs.Numbers.{Each, Fits};
 ghost use Rattle.graphml.specs.State.{state, Sound, wrote, opened, has_room, drawn};
 
 use super::lines;
@@ -17,17 +18,17 @@ const HEAD: &[u8] =
 const TAIL: &[u8] = b"</graph>\n</graphml>\n";
 
 // The graph of the whole run is open: 20 bytes are set aside.
-pub struct RunGraph {
+pub(crate) struct RunGraph {
     open: (),
 }
 
 // A party's node is open: 8 bytes more.
-pub struct PartyNode {
+pub(crate) struct PartyNode {
     outer: RunGraph,
 }
 
 // A party's inner graph is open: 9 bytes more.
-pub struct PartyGraph {
+pub(crate) struct PartyGraph {
     outer: PartyNode,
 }
 
@@ -61,6 +62,7 @@ impl RunGraph {
         requires { Sound (state out.old) 20 }
         ensures whole { is_ok result ≡ all_fits out.old.room (one (edge source target)) }
         ensures after { state out.new ≡ drawn (state out.old) (one (edge source target)) }
+        ensures numbers { Each Fits (kept out.old.room (one (edge source target))) }
         ensures sound { Sound (state out.new) 20 }
     {
         out.begin(lines::edge_line(source, target).as_slice(), 0)?;
@@ -115,6 +117,7 @@ impl PartyGraph {
         requires { Sound (state out.old) 37 }
         ensures whole { is_ok result ≡ all_fits out.old.room (one (happened place happening.now)) }
         ensures after { state out.new ≡ drawn (state out.old) (one (happened place happening.now)) }
+        ensures numbers { Each Fits (kept out.old.room (one (happened place happening.now))) }
         ensures sound { Sound (state out.new) 37 }
     {
         out.begin(lines::happening_line(place, happening).as_slice(), 0)?;

@@ -2,12 +2,11 @@
 ghost use Rattle.std.specs.Prelude.{◌≡◌, ◌-◌, true, false, length, take, IfOk};
 ghost use Rattle.slots.specs.Slots.{items};
 ghost use Rattle.protocol.specs.Views.{play};
-ghost use Rattle.protocol.specs.Beats.{edges};
-ghost use Rattle.graphml.specs.Cut.{tags, EndsAt};
+ghost use Rattle.graphml.specs.Cut.{EndsAt};
 ghost use Rattle.graphml.specs.Body.{body};
-ghost use Rattle.graphml.specs.Edges.{edges_among};
-ghost use Rattle.graphml.specs.Nested.{WellNested};
-ghost use Rattle.graphml.specs.Answer.{in_frame, part};
+ghost use Rattle.graphml.specs.Closing.{Closes};
+ghost use Rattle.graphml.specs.Log.{ShowsTheLog};
+ghost use Rattle.graphml.specs.Answer.{in_frame};
 ghost use Rattle.graphml.specs.Export.{export_answer, export_bytes};
 
 use super::answer::{Exported, Refusal};
@@ -25,10 +24,14 @@ pub fn export<P: Pace>(
 ) -> Result<Exported, Refusal>
     ensures answer { result ≡ export_answer (play group.now.table log.now) group.now.plan.n (length out.old) }
     ensures bytes { out.new ≡ export_bytes (play group.now.table log.now) group.now.plan.n out.old }
-    ensures nested { IfOk result (λ x. WellNested (take x.bytes out.new)) }
-    ensures cut { IfOk result (λ x. x.whole ≡ false → EndsAt (length out.old - 275) (body (items log.now) group.now.plan.n)) }
-    ensures whole { IfOk result (λ x. x.whole ≡ true → take x.bytes out.new ≡ in_frame (body (items log.now) group.now.plan.n)) }
-    ensures edges { IfOk result (λ x. x.whole ≡ true → edges_among (tags (part (items log.now) group.now.plan.n (length out.old))) ≡ edges 0 (items log.now)) }
+    ensures whole { IfOk result (λ x. x.whole ≡ true →
+        take x.bytes out.new ≡ in_frame (body (items log.now) group.now.plan.n)) }
+    ensures cut { IfOk result (λ x. x.whole ≡ false →
+        EndsAt (length out.old - 275) (body (items log.now) group.now.plan.n)) }
+    // what a reader sees who has the written bytes alone
+    ensures closes { IfOk result (λ x. Closes (take x.bytes out.new)) }
+    ensures shown { IfOk result (λ x.
+        ShowsTheLog group.now.plan.n (items log.now) x (take x.bytes out.new)) }
 {
     if !group.wrote(log) {
         return Err(Refusal::LogDiffers);

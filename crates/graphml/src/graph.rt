@@ -1,7 +1,8 @@
 // The parties with their happenings, and then the edges, as far as they fit.
 ghost use Rattle.std.specs.Prelude.{◌≡◌, is_ok};
 ghost use Rattle.graphml.specs.Elements.{none};
-ghost use Rattle.graphml.specs.Cut.{all_fits};
+ghost use Rattle.graphml.specs.Cut.{all_fits, kept};
+ghost use Rattle.graphml.specs.Numbers.{Each, Fits};
 ghost use Rattle.graphml.specs.Body.{happenings_of, edges_from, is_arrived, party_then, body};
 ghost use Rattle.graphml.specs.State.{state, Sound, drawn};
 
@@ -19,6 +20,7 @@ fn write_happenings(
     requires { Sound (state out.old) 37 }
     ensures whole { is_ok result ≡ all_fits out.old.room (happenings_of party 0 log.now) }
     ensures after { state out.new ≡ drawn (state out.old) (happenings_of party 0 log.now) }
+    ensures numbers { Each Fits (kept out.old.room (happenings_of party 0 log.now)) }
     ensures sound { Sound (state out.new) 37 }
 {
     for (place, happening) in log.iter().enumerate() {
@@ -39,6 +41,7 @@ fn write_party(
     requires { Sound (state out.old) 20 }
     ensures whole { is_ok result ≡ all_fits out.old.room (party_then log.now party none) }
     ensures after { state out.new ≡ drawn (state out.old) (party_then log.now party none) }
+    ensures numbers { Each Fits (kept out.old.room (party_then log.now party none)) }
     ensures sound { Sound (state out.new) 20 }
 {
     let node = run.open_node(out, party)?;
@@ -60,6 +63,7 @@ fn write_edges(out: &mut Output, run: &RunGraph, log: &[Happening]) -> Result<()
     requires { Sound (state out.old) 20 }
     ensures whole { is_ok result ≡ all_fits out.old.room (edges_from 0 log.now) }
     ensures after { state out.new ≡ drawn (state out.old) (edges_from 0 log.now) }
+    ensures numbers { Each Fits (kept out.old.room (edges_from 0 log.now)) }
     ensures sound { Sound (state out.new) 20 }
 {
     for (place, happening) in log.iter().enumerate() {
@@ -86,6 +90,7 @@ pub(crate) fn write_body(
     requires { Sound (state out.old) 20 }
     ensures whole { is_ok result ≡ all_fits out.old.room (body log.now parties) }
     ensures after { state out.new ≡ drawn (state out.old) (body log.now parties) }
+    ensures numbers { Each Fits (kept out.old.room (body log.now parties)) }
     ensures sound { Sound (state out.new) 20 }
 {
     for party in 0..=u16::from(parties) {

@@ -3,6 +3,7 @@
 
 pub mod answer;
 mod element;
+pub mod example;
 pub mod export;
 mod graph;
 mod lines;

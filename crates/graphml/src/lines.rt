@@ -1,5 +1,5 @@
 // The lines of the file. Each spells its own text: one function for all would take the texts between the numbers, and read no plainer.
-ghost use Rattle.std.specs.Prelude.{◌≡◌};
+ghost use Rattle.std.specs.Prelude.{◌≡◌, ◌^◌, ◌<◌};
 ghost use Rattle.graphml.specs.Texts.{node_line, graph_line, happening_line, edge_line};
 
 use protocol::happening::Happening;
@@ -26,7 +26,8 @@ pub(crate) fn graph_line(party: u16) -> Line
 }
 
 pub(crate) fn happening_line(place: usize, h: &Happening) -> Line
-    ensures { result ≡ happening_line place h.now }
+    ensures line { result ≡ happening_line place h.now }
+    ensures tick { h.now.tick < 2 ^ 64 }
 {
     let mut l = Line::new();
     l.add(b"<node id=\"h");

@@ -6,12 +6,12 @@ use text::bytes::put;
 
 // `room` counts the bytes that are neither written nor set aside for the closings of what is open.
 #[derive(Drop)]
-pub struct Output<'a> {
-    pub bytes: &'a mut [u8],
-    pub at: usize,
-    pub room: usize,
-    pub happenings: usize,
-    pub edges: usize,
+pub(crate) struct Output<'a> {
+    pub(crate) bytes: &'a mut [u8],
+    pub(crate) at: usize,
+    pub(crate) room: usize,
+    pub(crate) happenings: usize,
+    pub(crate) edges: usize,
 }
 
 // What an element answers that did not fit: nothing more is written of the run but closings.

@@ -1,11 +1,10 @@
 // A whole run, in the frame.
 ghost use Rattle.std.specs.Prelude.{◌≡◌, ◌-◌, true, false, length, take, IfOk};
-ghost use Rattle.protocol.specs.Beats.{edges};
-ghost use Rattle.graphml.specs.Cut.{tags, EndsAt};
+ghost use Rattle.graphml.specs.Cut.{EndsAt};
 ghost use Rattle.graphml.specs.Body.{body};
-ghost use Rattle.graphml.specs.Edges.{edges_among};
-ghost use Rattle.graphml.specs.Nested.{WellNested};
-ghost use Rattle.graphml.specs.Answer.{in_frame, part, written, exported};
+ghost use Rattle.graphml.specs.Closing.{Closes};
+ghost use Rattle.graphml.specs.Log.{ShowsTheLog};
+ghost use Rattle.graphml.specs.Answer.{in_frame, written, exported};
 
 use super::answer::{Exported, Refusal};
 use super::element::RunGraph;
@@ -17,13 +16,15 @@ use protocol::happening::Happening;
 pub const FRAME: usize = 275;
 
 // Writes the parties 0 to `parties` with their happenings, and an edge for each arrival, as far as the output has room.
-pub fn write_run(log: &[Happening], parties: u8, out: &mut [u8]) -> Result<Exported, Refusal>
+pub(crate) fn write_run(log: &[Happening], parties: u8, out: &mut [u8]) -> Result<Exported, Refusal>
     ensures answer { result ≡ exported log.now parties (length out.old) }
     ensures bytes { out.new ≡ written log.now parties out.old }
-    ensures nested { IfOk result (λ x. WellNested (take x.bytes out.new)) }
-    ensures cut { IfOk result (λ x. x.whole ≡ false → EndsAt (length out.old - 275) (body log.now parties)) }
-    ensures whole { IfOk result (λ x. x.whole ≡ true → take x.bytes out.new ≡ in_frame (body log.now parties)) }
-    ensures edges { IfOk result (λ x. x.whole ≡ true → edges_among (tags (part log.now parties (length out.old))) ≡ edges 0 log.now) }
+    ensures whole { IfOk result (λ x. x.whole ≡ true →
+        take x.bytes out.new ≡ in_frame (body log.now parties)) }
+    ensures cut { IfOk result (λ x. x.whole ≡ false →
+        EndsAt (length out.old - 275) (body log.now parties)) }
+    ensures closes { IfOk result (λ x. Closes (take x.bytes out.new)) }
+    ensures shown { IfOk result (λ x. ShowsTheLog parties log.now x (take x.bytes out.new)) }
 {
     let size = out.len();
     if size < FRAME {

@@ -3,3 +3,5 @@ pub mod Views
 pub mod Follows
 pub mod Passes
 pub mod Advance
+pub mod Named
+pub mod Patience

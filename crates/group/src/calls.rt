@@ -1,20 +1,21 @@
 // The calls of a group. Each puts its questions first; a refusal changes nothing. Two that look alike share two lines, and each has a contract of its own.
 // That pace and plan stay is said by every call, since no ghost field can tell what a value was before a call.
-ghost use Rattle.std.specs.Prelude.{◌≡◌, ◌-◌, replicate};
+ghost use Rattle.std.specs.Prelude.{◌≡◌};
 ghost use Rattle.protocol.specs.Answers.{told};
 ghost use Rattle.protocol.specs.declared.call.Call.TheVariants.{Tick, Deliver, Lose, Crash, Join, Leave};
-ghost use Rattle.group.specs.Views.{Performed, Made};
+ghost use Rattle.group.specs.Advance.{WentOn};
+ghost use Rattle.group.specs.Views.{Performed};
 
 use crate::acts::{do_crash, do_deliver, do_join, do_leave, do_lose};
 use crate::advancing::tick_until;
+use crate::dues::next_due;
 use crate::group::Group;
+use crate::questions::{ask_beat, ask_crash, ask_join, ask_leave, ask_quiet_tick, ask_tick};
 use crate::rounds::do_tick;
-use dues::next_due;
 use pace::Pace;
 use protocol::call::Call;
 use protocol::happening::Happening;
 use protocol::refusal::Refusal;
-use questions::{ask_beat, ask_crash, ask_join, ask_leave, ask_quiet_tick, ask_tick};
 use slots::SlotList;
 
 impl<P: Pace> Group<P> {
@@ -35,14 +36,20 @@ impl<P: Pace> Group<P> {
         Ok(())
     }
 
-    // Ticks until the clock is `until`, or a tick is refused; time in which nothing is due costs nothing.
+    // Ticks until the clock is `until`, or the next tick would be refused. It answers a refusal only of its first tick, and then has changed
+    // nothing: whoever wants to know why it stopped short calls it again. Time in which nothing is due costs nothing.
     pub fn advance(&mut self, log: &mut SlotList<'_, Happening>, until: u32) -> Result<(), Refusal>
         ensures pace { self.new.pace ≡ self.old.pace }
         ensures plan { self.new.plan ≡ self.old.plan }
-        ensures made { Made (P.means self.old.pace) self.old.plan (replicate (until - self.old.table.clock) Tick) self.old.table self.new.table log.old log.new (told result) }
+        ensures went { WentOn (P.means self.old.pace) self.old.plan until self.old.table
+            self.new.table log.old log.new (told result) }
     {
-        self.quiet_until = 0;
-        tick_until(&self.pace, &self.plan, &mut self.table, log, until)
+        if self.table.clock < until {
+            ask_tick(&self.plan, &self.table, log)?;
+            self.quiet_until = 0;
+            tick_until(&self.pace, &self.plan, &mut self.table, log, until);
+        }
+        Ok(())
     }
 
     // The beat on a leg of a party arrives.

@@ -1,18 +1,19 @@
 // What whoever looks on may know of a group.
 ghost use Rattle.std.specs.Prelude.{◌≡◌};
+ghost use Rattle.protocol.specs.Order.{TellsOwnLog};
 ghost use Rattle.protocol.specs.Runs.{is_own_log};
 ghost use Rattle.protocol.specs.Views.{play};
 ghost use Rattle.group.specs.Views.{seen_party, seen_beat};
 ghost use Rattle.protocol.specs.Patience.{patience};
 
+use crate::dues::patience_of;
 use crate::group::Group;
-use dues::patience_of;
+use crate::questions::is_own_log;
 use pace::Pace;
 use protocol::happening::Happening;
 use protocol::party::{Beat, Party};
 use protocol::plan::Plan;
 use protocol::table::Root;
-use questions::is_own_log;
 use slots::SlotList;
 
 impl<P: Pace> Group<P> {
@@ -48,8 +49,10 @@ impl<P: Pace> Group<P> {
     }
 
     // Is this the log that the group wrote?
+    #[tactic(auto, using(protocol::proofs::Own::tells_own))]
     pub fn wrote(&self, log: &SlotList<'_, Happening>) -> bool
-        ensures { result ≡ is_own_log (play self.now.table log.now) }
+        ensures answer { result ≡ is_own_log (play self.now.table log.now) }
+        ensures own { TellsOwnLog result (play self.now.table log.now) }
     {
         is_own_log(&self.table, log)
     }

@@ -9,7 +9,6 @@ use Rattle.protocol.specs.declared.happening.Happening.{Happening}
 use Rattle.protocol.specs.declared.happening.HappeningKind.TheVariants.{Sent}
 use Rattle.protocol.specs.declared.kind.GroupKind.{GroupKind}
 use Rattle.protocol.specs.declared.kind.GroupKind.TheVariants.{Closed, Expanding, Dynamic}
-use Rattle.protocol.specs.declared.party.Ending.TheVariants.{Crashed, Stopped}
 use Rattle.protocol.specs.declared.party.Party.{Party}
 use Rattle.protocol.specs.declared.party.Roll.TheVariants.{On}
 use Rattle.protocol.specs.declared.party.Stage.TheVariants.{In}
@@ -17,6 +16,7 @@ use Rattle.protocol.specs.declared.party.Standing.TheVariants.{Live}
 use Rattle.protocol.specs.declared.plan.Plan.{Plan}
 use Rattle.protocol.specs.declared.table.Root.{Root}
 use Rattle.protocol.specs.declared.table.Root.TheVariants.{Running, Down}
+use Rattle.protocol.specs.declared.table.RootEnding.TheVariants.{Crashed, Stopped}
 use Rattle.protocol.specs.Party.{beat, noted, owning, legs_of, party}
 use Rattle.protocol.specs.Group.{happens, opened}
 use Rattle.handplayed.specs.Columns.{Setting}

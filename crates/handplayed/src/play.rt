@@ -9,7 +9,7 @@ use protocol::kind::GroupKind;
 use protocol::party::{Ending, Standing};
 use protocol::plan::Plan;
 use protocol::refusal::Refusal;
-use protocol::table::Root;
+use protocol::table::{Root, RootEnding};
 use slots::SlotList;
 use std::process::Abort;
 use std::test::Fail;
@@ -73,7 +73,7 @@ pub(crate) fn play(
 
 pub(crate) fn root_stop<P: Pace>(group: &Group<P>) -> Option<u32> {
     match group.root() {
-        Root::Down(Ending::Stopped, at) => Some(at),
+        Root::Down(RootEnding::Stopped, at) => Some(at),
         _ => None,
     }
 }

@@ -98,9 +98,12 @@ fn advancing_stops_where_a_beat_is_due(rt: HostRuntime) -> Result<(), Fail> {
     let mut slots = [Happening::default(); 64];
     let mut log = SlotList::new(&mut slots);
     let mut group = Group::open(halving(1, 1)?, pair(GroupKind::Closed)?);
-    assert_eq!(rt; number(group.advance(&mut log, 5), Refusal::number), 11);
-    assert_eq!(rt; group.clock(), 2);
-    assert_eq!(rt; group.logged(), 1);
+    for answer in [0, 11] {
+        assert_eq!(rt; number(group.advance(&mut log, 5), Refusal::number), answer);
+        assert_eq!(rt; group.clock(), 2);
+        assert_eq!(rt; group.logged(), 1);
+    }
+    assert_eq!(rt; number(group.advance(&mut log, 2), Refusal::number), 0);
     Ok(())
 }
 
@@ -110,11 +113,13 @@ fn advancing_ends_the_party_and_stops_at_the_clocks_limit(rt: HostRuntime) -> Re
     let mut log = SlotList::new(&mut slots);
     let mut group = Group::open(halving(1, 10)?, pair(GroupKind::Closed)?);
     assert_eq!(rt; number(group.crash(&mut log, 0), Refusal::number), 0);
-    assert_eq!(rt;
-        number(group.advance(&mut log, u32::MAX), Refusal::number),
-        10
-    );
-    assert_eq!(rt; group.clock(), 4_000_000_000);
+    for answer in [0, 10] {
+        assert_eq!(rt;
+            number(group.advance(&mut log, u32::MAX), Refusal::number),
+            answer
+        );
+        assert_eq!(rt; group.clock(), 4_000_000_000);
+    }
     assert_eq!(rt; party_stop(&group), Some(28));
     Ok(())
 }

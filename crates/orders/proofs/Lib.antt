@@ -1,3 +1,5 @@
 mod Rereading
+mod OnlyWritten
 mod Records
 pub mod Loads
+mod Example

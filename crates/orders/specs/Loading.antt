@@ -1,5 +1,6 @@
 -- Reading a whole file into a list.
 use Rattle.std.specs.Prelude.{◌≡◌, ℕ, zero, suc, ◌+◌, ◌^◌, ◌<◌, ◌≤◌, List, [], ◌∷◌, ◌++◌, length, drop, Some, None, Ok, Err, Option, Result}
+use Rattle.std.specs.List.{All}
 use Rattle.slots.specs.declared.refusal.Refusal.{Refusal}
 use Rattle.slots.specs.Slots.{append_answer, last_time}
 use Rattle.orders.specs.declared.fault.ReadCause.TheVariants.{Append}
@@ -64,3 +65,9 @@ abbrev pub WrittenFilesLoad : Type 0
 WrittenFilesLoad =
     (s : Start) (os xs ys : List Order) → StartFits s → InOrder (last_time tick_of xs) os → length os ≤ length ys
     → loaded (bytes_of_file s os) xs ys ≡ ended (xs ++ os) (drop (length os) ys) (Ok s)
+
+-- and only such a file loads: bytes that give a start are those that it and the orders behind the list's are written as
+abbrev pub LoadedFilesAreWritten : Type 0
+LoadedFilesAreWritten =
+    (file : List ℕ) (s : Start) (xs ys : List Order) → All (λ b. b < 256) file → (loaded file xs ys).answer ≡ Ok s
+    → (os : List Order) × ((loaded file xs ys).items ≡ xs ++ os) × (file ≡ bytes_of_file s os)

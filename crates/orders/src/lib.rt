@@ -4,5 +4,5 @@
 pub mod fault;
 pub mod load;
 pub mod order;
-pub mod reader;
+mod reader;
 pub mod start;

@@ -2,7 +2,8 @@
 ghost use Rattle.std.specs.Prelude.{◌≡◌};
 ghost use Rattle.std.specs.List.Sorted.{IsNonDecreasingBy};
 ghost use Rattle.slots.specs.Slots.{items, spare, Extends};
-ghost use Rattle.orders.specs.Loading.{loaded, tick_of, WrittenFilesLoad};
+ghost use Rattle.orders.specs.Example.{ExamplesLoad};
+ghost use Rattle.orders.specs.Loading.{loaded, tick_of, WrittenFilesLoad, LoadedFilesAreWritten};
 
 use super::fault::ReadFault;
 use super::order::Order;
@@ -19,6 +20,8 @@ pub fn load(bytes: &[u8], list: &mut SlotList<'_, Order>) -> Result<Start, ReadF
     ensures extends { Extends list.old list.new }
     ensures rises { IsNonDecreasingBy tick_of (items list.old) → IsNonDecreasingBy tick_of (items list.new) }
     ensures reads_back { WrittenFilesLoad }
+    ensures only_written { LoadedFilesAreWritten }
+    ensures examples { ExamplesLoad }
 {
     let mut reader = Reader::new(bytes);
     let start = reader.start()?;

@@ -9,7 +9,7 @@ use protocol::kind::UnknownKind;
 use slots::timed::Timed;
 
 // The two bytes before each order.
-pub const ORDER_MARK: [u8; 2] = [0x48, 0x4F];
+pub(crate) const ORDER_MARK: [u8; 2] = [0x48, 0x4F];
 
 // How many bytes an order has, with its mark.
 pub const ORDER_SIZE: usize = 9;

@@ -8,28 +8,28 @@ use super::start::{START_MARK, START_SIZE, Start};
 
 // The caller's bytes, and the place of the record that is read next, which a fault tells.
 #[derive(Drop)]
-pub struct Reader<'a> {
+pub(crate) struct Reader<'a> {
     bytes: &'a [u8],
     at: usize,
     ghost within: { at ≤ length bytes.now },
 }
 
 impl<'a> Reader<'a> {
-    pub fn new(bytes: &'a [u8]) -> Reader<'a>
+    pub(crate) fn new(bytes: &'a [u8]) -> Reader<'a>
         ensures bytes { result.bytes.now ≡ bytes.now }
         ensures place { result.at ≡ 0 }
     {
         Reader { bytes, at: 0 }
     }
 
-    pub fn place(&self) -> usize
+    pub(crate) fn place(&self) -> usize
         ensures { result ≡ self.now.at }
     {
         self.at
     }
 
     // The start record at the reader's place; a fault leaves the reader there.
-    pub fn start(&mut self) -> Result<Start, ReadFault>
+    pub(crate) fn start(&mut self) -> Result<Start, ReadFault>
         ensures answer { result ≡ start_at self.old.bytes.now self.old.at }
         ensures place { self.new.at ≡ after_start result self.old.at }
         ensures bytes { self.new.bytes ≡ self.old.bytes }
@@ -43,7 +43,7 @@ impl<'a> Reader<'a> {
     }
 
     // The order at the reader's place, or none at the end; a fault leaves the reader there.
-    pub fn order(&mut self) -> Result<Option<Order>, ReadFault>
+    pub(crate) fn order(&mut self) -> Result<Option<Order>, ReadFault>
         ensures answer { result ≡ order_at self.old.bytes.now self.old.at }
         ensures place { self.new.at ≡ after_order result self.old.at }
         ensures bytes { self.new.bytes ≡ self.old.bytes }

@@ -8,7 +8,7 @@ ghost use Rattle.orders.specs.Writing.{start_bytes};
 use protocol::kind::{GroupKind, UnknownKind};
 
 // The two bytes before the start record.
-pub const START_MARK: [u8; 2] = [0x48, 0x47];
+pub(crate) const START_MARK: [u8; 2] = [0x48, 0x47];
 
 // How many bytes a start record has, with its mark.
 pub const START_SIZE: usize = 14;

@@ -9,7 +9,6 @@ use Rattle.protocol.specs.declared.table.Table.{Table}
 use Rattle.protocol.specs.declared.plan.Plan.{Plan}
 use Rattle.protocol.specs.Group.{Play, opened}
 use Rattle.protocol.specs.Runs.{is_own_log}
-use Rattle.protocol.specs.Beats.{edges}
 use Rattle.protocol.specs.Promise.{KeepsTheRules}
 use Rattle.protocol.proofs.Rehearsal.{keeps}
 use Rattle.protocol.specs.Views.{play}
@@ -17,10 +16,10 @@ use Rattle.orders.specs.declared.order.Order.{Order}
 use Rattle.orders.specs.declared.start.Start.{Start}
 use Rattle.graphml.specs.declared.answer.Exported.{Exported}
 use Rattle.graphml.specs.declared.answer.Refusal.{Refusal}
-use Rattle.graphml.specs.Cut.{tags, EndsAt}
+use Rattle.graphml.specs.Cut.{EndsAt}
 use Rattle.graphml.specs.Body.{body}
-use Rattle.graphml.specs.Edges.{edges_among}
-use Rattle.graphml.specs.Nested.{WellNested}
+use Rattle.graphml.specs.Closing.{Closes}
+use Rattle.graphml.specs.Log.{ShowsTheLog}
 use Rattle.graphml.specs.Answer.{in_frame, part, over, summary}
 use Rattle.graphml.specs.Export.{export_answer, export_bytes}
 use Rattle.graphml.specs.Shown.{ShowsTheRun}
@@ -102,19 +101,20 @@ module _ (m : Meaning) (sound : Lawful m) (plan : Plan) (orders : List Order) (h
     -- what came of the playing is exported by a group of that plan, and printed with the stop
     pub played : (hs' : List Happening) (out out' : List ℕ) (p : Plan) (r : Result Exported Refusal) (bytes : ℕ) (lines : List ℕ) →
         hs' ≡ l'.slots.now → p ≡ plan → r ≡ export_answer (play t' l') p.n (length out) → out' ≡ export_bytes (play t' l') p.n out →
-        IfOk r (λ x. WellNested (take x.bytes out')) → IfOk r (λ x. x.whole ≡ false → EndsAt (length out - 275) (body (items l') p.n)) →
-        IfOk r (λ x. x.whole ≡ true → edges_among (tags (part (items l') p.n (length out))) ≡ edges 0 (items l')) →
+        IfOk r (λ x. x.whole ≡ true → take x.bytes out' ≡ in_frame (body (items l') p.n)) →
+        IfOk r (λ x. x.whole ≡ false → EndsAt (length out - 275) (body (items l') p.n)) →
+        IfOk r (λ x. Closes (take x.bytes out')) → IfOk r (λ x. ShowsTheLog p.n (items l') x (take x.bytes out')) →
         Prints r stop bytes lines → Played m plan orders hs hs' out out' bytes lines
-    played hs' out out' p r bytes lines h same answer written nested cut edged prints =
+    played hs' out out' p r bytes lines h same answer written entire cut closes shows_log prints =
         let here = subst (KeepsTheRules m plan (length hs) taken.steps) (sym play_is) kept in
         let shown =
-        subst (λ x. ShowsTheRun m plan (length hs) taken.steps x out out' r) play_is
-        (shows m plan (length hs) taken.steps (play t' l') out out' r p same here.arrivals_are_the_deliveries here.log_in_order answer written nested cut edged) in
+        subst (λ x. ShowsTheRun plan x out out' r) play_is
+        (shows plan (play t' l') out out' r p same here.log_in_order answer written entire cut closes shows_log) in
         record {
           made = taken;
           promise = kept;
           log = h ∙ log_is;
-          file = subst (ShowsTheRun m plan (length hs) taken.steps ran.play out out') shown.answer_as_defined shown;
+          file = subst (ShowsTheRun plan ran.play out out') shown.answer_as_defined shown;
           prints =
               subst (λ x. Prints x ran.stop bytes lines) shown.answer_as_defined
               (subst (λ x. Prints r x bytes lines) (stopped ∙ ap (λ (x : Playing). x.stop) from_new) prints);

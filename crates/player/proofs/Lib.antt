@@ -5,3 +5,5 @@ pub mod Running
 pub mod Lengths
 pub mod Files
 pub mod Reading
+mod Ticking
+mod Example

@@ -13,11 +13,10 @@ use Rattle.protocol.specs.Runs.{number, perform}
 use Rattle.protocol.specs.Making.{Making, makes}
 use Rattle.protocol.specs.Views.{play}
 use Rattle.protocol.proofs.Making.{some_number, makes_then, makes_no_more, makes_one}
-use Rattle.group.specs.Views.{Made}
 use Rattle.player.specs.declared.play.PlayFault.{PlayFault}
 use Rattle.player.specs.declared.play.PlayFault.TheVariants.{Refused}
 use Rattle.player.specs.declared.play.PlayStop.{PlayStop}
-use Rattle.player.specs.Playing.{at_most_one, fault_number, fault_told, stop_told}
+use Rattle.player.specs.Playing.{at_most_one, fault_number, fault_told, stop_told, Made}
 use Rattle.player.proofs.Turns.{Turn}
 
 -- no fault has number 0

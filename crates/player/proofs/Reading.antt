@@ -16,7 +16,7 @@ use Rattle.orders.specs.declared.order.Order.{Order}
 use Rattle.orders.specs.declared.start.PaceKind.{PaceKind}
 use Rattle.orders.specs.declared.start.Start.{Start}
 use Rattle.orders.specs.Loading.{Loaded, loaded}
-use Rattle.player.specs.Program.{waits_of, pace_of, or_else, cap_and_plan_no, set_up_no, NotPlayed, SetUp, Read, FileRun}
+use Rattle.player.specs.Program.{waits_of, pace_of, or_else, cap_and_plan_no, set_up_no, NotPlayed, SetUp, Read, FileOutcome}
 
 -- no refusal has number 0
 some_number : (e : Refusal) → (k : ℕ) × (number e ≡ suc k)
@@ -51,7 +51,7 @@ module _ (s : Start) (orders : List Order) (hs hs' : List Happening) (out out' :
 pub file_run : (file : List ℕ) (l l' : SlotList Order) (os os' : List Order) (r : Result Start ReadFault) (hs hs' : List Happening) (out out' : List ℕ) (bytes : ℕ) (lines : List ℕ) →
     items l ≡ [] → spare l ≡ os → r ≡ (loaded file (items l) (spare l)).answer → items l' ≡ (loaded file (items l) (spare l)).items →
     spare l' ≡ (loaded file (items l) (spare l)).spare → os' ≡ l'.slots.now → Read r (items l') hs hs' out out' bytes lines →
-    FileRun file os os' hs hs' out out' bytes lines
+    FileOutcome file os os' hs hs' out out' bytes lines
 file_run file l l' os os' r hs hs' out out' bytes lines empty lent answer its spares back came =
     let same : loaded file (items l) (spare l) ≡ loaded file [] os = ap (λ xs. loaded file xs (spare l)) empty ∙ ap (λ ys. loaded file [] ys) lent in
     let i = its ∙ ap (λ (x : Loaded). x.items) same in

@@ -13,10 +13,10 @@ use Rattle.protocol.specs.Answers.{refusal_number}
 use Rattle.protocol.specs.Runs.{number, perform}
 use Rattle.protocol.specs.Making.{Making, makes}
 use Rattle.protocol.specs.Views.{play}
-use Rattle.group.specs.Views.{Performed, Made}
+use Rattle.group.specs.Views.{Performed}
 use Rattle.player.specs.declared.play.PlayFault.{PlayFault}
 use Rattle.player.specs.declared.play.PlayFault.TheVariants.{Refused}
-use Rattle.player.specs.Playing.{fault_told}
+use Rattle.player.specs.Playing.{fault_told, Made}
 
 pub record Turn (m : Meaning) (plan : Plan) (room : ℕ) (call : Call) (t t' : Table) (l l' : SlotList Happening) (told : ℕ) : Type 0 where
   pub answer : told ≡ number plan room call (play t l)

@@ -1,6 +1,7 @@
 -- What is told of a file that is not played.
 use Rattle.std.specs.Prelude.{◌≡◌, ℕ}
 use Rattle.pace.specs.Answers.{number}
+use Rattle.protocol.specs.Plans.{bad_count_number}
 use Rattle.orders.specs.Faults.{fault_number}
 use Rattle.graphml.specs.Answer.{refusal_number}
 use Rattle.player.specs.declared.fault.FileFault.{FileFault}
@@ -17,7 +18,7 @@ file_byte (Export e) = 0
 abbrev pub file_number : FileFault → ℕ
 file_number (Read f) = fault_number f
 file_number (Pace e) = number e
-file_number (Plan e) = 5
+file_number (Plan e) = bad_count_number e
 file_number (Export e) = refusal_number e
 
 -- the number n is told, at the file's first byte, as of what is no record

@@ -1,5 +1,6 @@
 pub mod Playing
 pub mod Notices
+pub mod Example
 pub mod Faults
 pub mod Told
 pub mod Program

@@ -66,6 +66,12 @@ plays m plan room k (o ∷ os) s =
     let x = makes m plan room (calls_for s.table.clock o) s in
     goes_on_from x.number k x (plays m plan room (k + 1) os x.play)
 
+-- the calls were made, up to the first refusal: the table, the records and the answer are those that `makes` gives
+pub record Made (m : Meaning) (plan : Plan) (calls : List Call) (t t' : Table) (l l' : SlotList Happening) (told : ℕ) : Type 0 where
+  pub answer : told ≡ (makes m plan (capacity l) calls (play t l)).number
+  pub after : play t' l' ≡ (makes m plan (capacity l) calls (play t l)).play
+  pub extends : Extends l l'
+
 -- the number of a fault is that of the group's own refusal inside it
 abbrev pub fault_number : PlayFault → ℕ
 fault_number (Refused e) = refusal_number e

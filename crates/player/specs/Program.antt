@@ -1,11 +1,12 @@
 -- What a whole file comes to: what is printed of it, and what the lent slots and bytes then hold.
-use Rattle.std.specs.Prelude.{◌≡◌, ℕ, zero, suc, cond, not, ◌&&◌, List, [], ◌++◌, length, drop, Ok, Err, Result, nat_le}
+use Rattle.std.specs.Prelude.{◌≡◌, ℕ, zero, suc, not, List, [], ◌++◌, length, drop, Ok, Err, Result}
 use Rattle.pace.specs.Meaning.{Meaning}
 use Rattle.pace.specs.Waits.{halving, phases, capped}
 use Rattle.pace.specs.Questions.{limits_no, count_no}
 use Rattle.protocol.specs.declared.happening.Happening.{Happening}
 use Rattle.protocol.specs.declared.plan.Plan.{Plan}
 use Rattle.protocol.specs.Group.{opened}
+use Rattle.protocol.specs.Plans.{parties_no}
 use Rattle.protocol.specs.Promise.{KeepsTheRules}
 use Rattle.orders.specs.declared.fault.ReadFault.{ReadFault}
 use Rattle.orders.specs.declared.order.Order.{Order}
@@ -18,6 +19,8 @@ use Rattle.graphml.specs.declared.answer.Exported.{Exported}
 use Rattle.graphml.specs.declared.answer.Refusal.{Refusal}
 use Rattle.graphml.specs.Answer.{refusal_number, exported}
 use Rattle.graphml.specs.Shown.{ShowsTheRun}
+use Rattle.text.specs.declared.line_bytes.LineBytes.{LineBytes}
+use Rattle.text.specs.Lines.{AnsweredAs}
 use Rattle.player.specs.Playing.{Stop, Playing, plays, RunOf}
 use Rattle.player.specs.Notices.{refused_line, cut_line, stop_line}
 
@@ -29,10 +32,6 @@ waits_of TwoPhase tmin tmax = phases 63 tmin tmax
 -- the pace that a file asks for, under its cap
 abbrev pub pace_of : Start → Meaning
 pace_of s = capped s.cap (record { tmin = s.tmin; tmax = s.tmax; waits = waits_of s.pace s.tmin s.tmax })
-
--- 5: is the number of parties 1 to 32?
-abbrev pub parties_no : ℕ → ℕ
-parties_no n = cond (nat_le 1 n && nat_le n 32) 0 5
 
 -- the number of a question, or where it is answered yes what the later ones come to
 abbrev pub or_else : ℕ → ℕ → ℕ
@@ -65,7 +64,7 @@ pub record Played (m : Meaning) (plan : Plan) (orders : List Order) (hs hs' : Li
   -- the run's records, and behind them what the slots held
   pub log : hs' ≡ (run m plan (length hs) orders).play.log ++ drop (length (run m plan (length hs) orders).play.log) hs
   -- the output holds the file of that run
-  pub file : ShowsTheRun m plan (length hs) made.steps (run m plan (length hs) orders).play out out' (exported (run m plan (length hs) orders).play.log plan.n (length out))
+  pub file : ShowsTheRun plan (run m plan (length hs) orders).play out out' (exported (run m plan (length hs) orders).play.log plan.n (length out))
   pub prints : Prints (exported (run m plan (length hs) orders).play.log plan.n (length out)) (run m plan (length hs) orders).stop bytes lines
 
 -- the same for a file that is not
@@ -87,6 +86,12 @@ Read (Ok s) orders hs hs' out out' bytes lines = SetUp (set_up_no s) (pace_of s)
 Read (Err f) orders hs hs' out out' bytes lines = NotPlayed f.byte (fault_number f) hs hs' out out' bytes lines
 
 -- a file, the slots for its orders and for the log, and the output, before and after; and what is printed
-pub record FileRun (file : List ℕ) (os os' : List Order) (hs hs' : List Happening) (out out' : List ℕ) (bytes : ℕ) (lines : List ℕ) : Type 0 where
+pub record FileOutcome (file : List ℕ) (os os' : List Order) (hs hs' : List Happening) (out out' : List ℕ) (bytes : ℕ) (lines : List ℕ) : Type 0 where
   pub orders : os' ≡ (loaded file [] os).items ++ (loaded file [] os).spare
   pub came : Read (loaded file [] os).answer (loaded file [] os).items hs hs' out out' bytes lines
+
+-- the same, the lines being answered as 128 bytes, the rest 0, with their length
+pub record FileRun (file : List ℕ) (os os' : List Order) (hs hs' : List Happening) (out out' : List ℕ) (bytes : ℕ) (notices : LineBytes) : Type 0 where
+  pub lines : List ℕ
+  pub outcome : FileOutcome file os os' hs hs' out out' bytes lines
+  pub answered : AnsweredAs lines notices

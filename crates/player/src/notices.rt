@@ -1,10 +1,13 @@
 // The lines that tell of a file what its run does not show.
 ghost use Rattle.std.specs.Prelude.{◌≡◌, ◌≤◌, ◌++◌, length};
+ghost use Rattle.text.specs.Lines.{padded};
 ghost use Rattle.player.specs.Playing.{fault_number, stop_told};
+ghost use Rattle.player.specs.Example.{NoticesByHand};
 ghost use Rattle.player.specs.Notices.{refused_line, cut_line, stopped_line, stop_line, notice_lines};
 
 use crate::play::PlayStop;
 use text::Line;
+use text::line_bytes::LineBytes;
 
 // A file that was played, to its end or to a stop, and whose run was exported, whole or cut.
 #[derive(Clone, Copy, Debug, PartialEq, Eq)]
@@ -21,7 +24,16 @@ pub struct RefusedFile {
 }
 
 // The lines that tell what came of a file. No Display, since they are answered as the bytes of one line with their length.
-pub fn notices(outcome: Result<PlayedFile, RefusedFile>) -> Line
+pub fn notices(outcome: Result<PlayedFile, RefusedFile>) -> LineBytes
+    ensures bytes { result.bytes ≡ padded (notice_lines outcome) }
+    ensures len { result.len ≡ length (notice_lines outcome) }
+    ensures within { result.len ≤ 128 }
+    ensures by_hand { NoticesByHand }
+{
+    notice_lines(outcome).into_bytes()
+}
+
+fn notice_lines(outcome: Result<PlayedFile, RefusedFile>) -> Line
     ensures { result ≡ notice_lines outcome }
 {
     match outcome {

@@ -2,9 +2,8 @@
 ghost use Rattle.std.specs.Prelude.{◌≡◌, ◌-◌, replicate};
 ghost use Rattle.slots.specs.Slots.{items};
 ghost use Rattle.protocol.specs.declared.call.Call.TheVariants.{Tick};
-ghost use Rattle.group.specs.Views.{Made};
 ghost use Rattle.player.specs.declared.play.PlayFault.TheVariants.{Refused};
-ghost use Rattle.player.specs.Playing.{own_call, calls_for, fault_number, fault_told, stop_told, OrdersPlayed};
+ghost use Rattle.player.specs.Playing.{own_call, calls_for, fault_number, fault_told, stop_told, Made, OrdersPlayed};
 
 use group::Group;
 use orders::order::{Order, OrderKind};
@@ -31,7 +30,7 @@ impl From<Refusal> for PlayFault {
 
 impl PlayFault {
     // The number of the question that was answered no. Not a `From`, which would not say so.
-    pub fn number(self) -> u8
+    pub(crate) fn number(self) -> u8
         ensures { result ≡ fault_number self }
     {
         match self {
@@ -61,8 +60,8 @@ pub fn own_call(order: Order) -> Option<Call>
     }
 }
 
-// Ticks until the clock is `tick`.
-fn tick_to<P: Pace>(
+// Ticks until the clock is `tick`, or a tick is refused; those before it stand.
+pub fn tick_to<P: Pace>(
     group: &mut Group<P>,
     log: &mut SlotList<'_, Happening>,
     tick: u32,
@@ -71,7 +70,9 @@ fn tick_to<P: Pace>(
     ensures plan { group.new.plan ≡ group.old.plan }
     ensures made { Made (P.means group.old.pace) group.old.plan (replicate (tick - group.old.table.clock) Tick) group.old.table group.new.table log.old log.new (fault_told result) }
 {
-    group.advance(log, tick)?;
+    while group.clock() < tick {
+        group.advance(log, tick)?;
+    }
     Ok(())
 }
 

@@ -3,7 +3,7 @@ ghost use Rattle.std.specs.Prelude.{◌≤◌, length};
 ghost use Rattle.pace.specs.Waits.{capped};
 ghost use Rattle.slots.specs.Slots.{items};
 ghost use Rattle.player.specs.Told.{bytes_told, lines_told};
-ghost use Rattle.player.specs.Program.{cap_and_plan_no, SetUp, FileRun};
+ghost use Rattle.player.specs.Program.{cap_and_plan_no, SetUp, FileOutcome, FileRun};
 
 use crate::fault::FileFault;
 use crate::notices::{PlayedFile, RefusedFile, notices};
@@ -19,13 +19,13 @@ use pace::limits::Limits;
 use pace::two_phase::TwoPhase;
 use protocol::happening::Happening;
 use slots::SlotList;
-use text::Line;
+use text::line_bytes::LineBytes;
 
 // What is printed: the first `file_bytes` bytes of the output, and then the notices.
-#[derive(Drop)]
+#[derive(Clone, Copy, Debug, PartialEq, Eq)]
 pub struct Printed {
     pub file_bytes: usize,
-    pub notices: Line,
+    pub notices: LineBytes,
 }
 
 // A run that was exported.
@@ -59,7 +59,7 @@ fn read_and_play(
     log_slots: &mut [Happening],
     out: &mut [u8],
 ) -> Result<Ran, FileFault>
-    ensures run { FileRun input.now order_slots.old order_slots.new log_slots.old log_slots.new out.old out.new (bytes_told result) (lines_told result) }
+    ensures run { FileOutcome input.now order_slots.old order_slots.new log_slots.old log_slots.new out.old out.new (bytes_told result) (lines_told result) }
     ensures within { bytes_told result ≤ length out.old }
 {
     let mut orders = SlotList::new(order_slots);

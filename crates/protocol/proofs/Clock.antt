@@ -17,7 +17,7 @@ module _ (m : Meaning) (n : ℕ) where
   rounded_clock false s = refl
 
 module _ (m : Meaning) (plan : Plan) where
-  ticked_clock : (s : Play) → (ticked m plan s).table.clock ≡ s.table.clock + 1
+  pub ticked_clock : (s : Play) → (ticked m plan s).table.clock ≡ s.table.clock + 1
   ticked_clock s = ap (λ c. c + 1) (rounded_clock m plan.n (round_ends s.table) s)
 
   pub tick_clock : (room : ℕ) (s : Play) → number plan room Tick s ≡ 0 → (perform m plan room Tick s).table.clock ≡ s.table.clock + 1

@@ -11,6 +11,7 @@ use Rattle.protocol.specs.declared.party.Standing.TheVariants.{Outside, Live, En
 use Rattle.protocol.specs.declared.party.Roll.TheVariants.{On}
 use Rattle.protocol.specs.declared.table.Root.{Root}
 use Rattle.protocol.specs.declared.table.Root.TheVariants.{Running, Down}
+use Rattle.protocol.specs.declared.table.RootEnding.{RootEnding}
 use Rattle.protocol.specs.declared.kind.GroupKind.{GroupKind}
 use Rattle.protocol.specs.declared.plan.Plan.{Plan}
 use Rattle.pace.specs.Meaning.{Meaning, Lawful}
@@ -23,17 +24,17 @@ use Rattle.protocol.proofs.Whole.{plays, opens}
 
 module _ (m : Terms) (kind : GroupKind) (law : LawfulTerms m kind) (q : Bool) (c : ℕ) (a l : ℕ) (p : Party) where
   root_down : (r : Root) (how : Ending) (e : ℕ) (g : Stage) → Scene m c r a l → Kept m kind q c r a l p → p.note.roll ≡ On → p.own.standing ≡ Ended how e g → e + m.bears < c →
-      (x : ℕ) × ((how : Ending) × (r ≡ Down how x))
+      (x : ℕ) × ((how : RootEnding) × (r ≡ Down how x))
   root_down Running how e g s k on end late = absurd (grind (arith, nat_tests))
   root_down (Down how' x) how e g s k on end late = (x, (how', refl))
 
-  party_down : (st : Standing) (r : ℕ) (how : Ending) → Kept m kind q c (Down how r) a l p → p.note.roll ≡ On → r + m.bears + m.tmin < c → p.own.standing ≡ st →
+  party_down : (st : Standing) (r : ℕ) (how : RootEnding) → Kept m kind q c (Down how r) a l p → p.note.roll ≡ On → r + m.bears + m.tmin < c → p.own.standing ≡ st →
       (e : ℕ) × ((how : Ending) × (g : Stage) × (p.own.standing ≡ Ended how e g))
   party_down Outside r how k on late is = absurd (grind (arith, nat_tests))
   party_down (Live g) r how k on late is = absurd (grind (arith, nat_tests))
   party_down (Ended how' e g) r how k on late is = (e, (how', g, is))
 
-  for_cause : (r : Root) (e : ℕ) → Kept m kind q c r a l p → p.own.standing ≡ Ended Stopped e In → (x : ℕ) × ((how : Ending) × (r ≡ Down how x)) × (x ≤ e)
+  for_cause : (r : Root) (e : ℕ) → Kept m kind q c r a l p → p.own.standing ≡ Ended Stopped e In → (x : ℕ) × ((how : RootEnding) × (r ≡ Down how x)) × (x ≤ e)
   for_cause Running e k is = absurd (grind (arith, nat_tests))
   for_cause (Down how x) e k is = (x, (how, refl), grind (arith, nat_tests))
 

@@ -19,18 +19,18 @@ abbrev pub Turned : ℕ → ℕ → ℕ → List Happening → Party → Party �
 Turned w i lo log p p' = (leg : ℕ) (b : Beat) → on_leg leg p' ≡ Some b → (on_leg leg p ≡ Some b) ⊎ New w i lo log leg b
 
 -- what stood on the other legs when the beat on leg x was taken off
-off_as : (a b x y z : Bool) (p : Party) (d : Beat) →
-    let q = cond a (off_out p) (cond b (off_reply p) (off_entry p)) in
+off_as : (a b c x y z : Bool) (p : Party) (d : Beat) →
+    let q = cond a (off_out p) (cond b (off_reply p) (cond c (off_entry p) p)) in
     cond x q.legs.out (cond y q.legs.reply (cond z q.legs.entry None)) ≡ Some d → cond x p.legs.out (cond y p.legs.reply (cond z p.legs.entry None)) ≡ Some d
-off_as a b x y z p d e = grind arith
+off_as a b c x y z p d e = grind arith
 
 gone_as : (x y z : Bool) (p : Party) (d : Beat) →
-    let q = cond x (off_out p) (cond y (off_reply p) (off_entry p)) in
+    let q = cond x (off_out p) (cond y (off_reply p) (cond z (off_entry p) p)) in
     cond x q.legs.out (cond y q.legs.reply (cond z q.legs.entry None)) ≡ Some d → ⊥
 gone_as x y z p d e = grind arith
 
 pub off_others : (taken leg : ℕ) (p : Party) (b : Beat) → on_leg leg (off_leg taken p) ≡ Some b → on_leg leg p ≡ Some b
-off_others taken leg p b e = off_as (eqb taken 1) (eqb taken 2) (eqb leg 1) (eqb leg 2) (eqb leg 3) p b e
+off_others taken leg p b e = off_as (eqb taken 1) (eqb taken 2) (eqb taken 3) (eqb leg 1) (eqb leg 2) (eqb leg 3) p b e
 
 pub off_gone : (taken leg : ℕ) (p : Party) (b : Beat) → on_leg leg (off_leg taken p) ≡ Some b → leg ≡ taken → ⊥
 off_gone taken leg p b e same =

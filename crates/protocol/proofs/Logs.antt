@@ -25,12 +25,32 @@ use Rattle.protocol.specs.Walk.{folds, walks}
 use Rattle.protocol.specs.Party.{nobody, fresh, on_leg, off_leg, off_out, off_reply, off_entry, arrives, hears_as, heeds, joined, missed, sends, sends_as, on_roll, missed_all, times, times_as, times_live, calls_in, live}
 use Rattle.protocol.specs.Group.{Play, the, happens, tells_of, links, sender, answer_log, runs, delivered_as, lost_as, crashed, joins, leaves, any, shortest, counted, send_log, sent, stopped, started, settled_as, rounded_as, rounded, round_ends, live_word, tells_if, timer_log, timed, later, opened}
 use Rattle.protocol.specs.Runs.{number, done, unless, perform, played}
-use Rattle.protocol.specs.Beats.{is_arrival, is_loss, settles, nothing, happening_at, SentBy, OtherEnd, Linked, LossesLinked, SettledOnce, Unsettled, Edge, edges, beat_edge, delivery, deliveries, PutBy}
+use Rattle.protocol.specs.Beats.{is_arrival, is_loss, settles, nothing, happening_at, SentBy, OtherEnd, Linked, LossesLinked, SettledOnce, Unsettled, Edge, edge, edges, PutBy}
 use Rattle.protocol.specs.Order.{InOrder}
 use Rattle.protocol.proofs.Onward.{Onward, stay, further, told, arrived, edges_same, sent_push, keeps_push, every_push, order_push, linked_push, losses_push, onward_linked, onward_losses, folds_onward, folds_between}
 use Rattle.protocol.proofs.Legs.{New, Turned, off_others, off_gone, stays, put_out, put_reply, put_entry}
 use Rattle.protocol.proofs.Asked.{asked_party, asked_low}
 use Rattle.protocol.proofs.Lifts.{set_each, set_two, walks_long, walks_at, folds_next}
+
+-- the edge of a beat that arrives at place k
+abbrev pub beat_edge : Option Beat → ℕ → List Edge
+beat_edge None k = []
+beat_edge (Some b) k = edge b.place k ∷ []
+
+-- the edge of a delivery that is not refused: from the sending of the beat on the leg to the log's next place
+abbrev pub delivery : Call → ℕ → Play → List Edge
+delivery Tick k s = []
+delivery (Deliver i leg) zero s = beat_edge (on_leg leg (the i s.table)) (length s.log)
+delivery (Deliver i leg) (suc k) s = []
+delivery (Lose i leg) k s = []
+delivery (Crash i) k s = []
+delivery (Join i) k s = []
+delivery (Leave i) k s = []
+
+-- the edges of the deliveries of a run, told by making all its calls again
+abbrev pub deliveries : Meaning → Plan → ℕ → List Call → Play → List Edge
+deliveries m plan room [] s = []
+deliveries m plan room (call ∷ calls) s = delivery call (number plan room call s) s ++ deliveries m plan room calls (perform m plan room call s)
 
 -- the parties and the length of the log at some moment before
 pub record Moment : Type 0 where
@@ -298,15 +318,17 @@ module _ (c : ℕ) where
   heeds_turn Running parting i lo log p = stays i lo log 2 p
   heeds_turn (Down how at) parting i lo log p = stays i lo log 2 p
 
-  follows_turn : (x y : Bool) (r : Root) (b : Beat) (i : ℕ) (p : Party) (log : List Happening) →
-      let off = cond x (off_out p) (cond y (off_reply p) (off_entry p)) in
+  follows_turn : (x y z : Bool) (r : Root) (b : Beat) (i : ℕ) (p : Party) (log : List Happening) →
+      let off = cond x (off_out p) (cond y (off_reply p) (cond z (off_entry p) p)) in
       Turned 2 i (length (links c (cond x i 0) Arrived b.place log))
       (cond x
       (cond (live p.own.standing) (tells_of c i Sent (links c i Arrived b.place log)) (links c i Arrived b.place log))
       (cond (runs r) (answer_log p.note.roll b.parting c i (links c 0 Arrived b.place log)) (links c 0 Arrived b.place log)))
-      off (cond x (hears_as p.own.standing c (length log + 1) b.last (off_out p)) (heeds r b.parting off))
-  follows_turn true y r b i p log = hears_turn p.own.standing i b.place b.last (off_out p) log
-  follows_turn false y r b i p log = heeds_turn r b.parting i _ _ (cond y (off_reply p) (off_entry p))
+      off (cond x (hears_as p.own.standing c (length log + 1) b.last (off_out p)) (cond y (heeds r b.parting (off_reply p)) (cond z (heeds r b.parting (off_entry p)) p)))
+  follows_turn true y z r b i p log = hears_turn p.own.standing i b.place b.last (off_out p) log
+  follows_turn false true z r b i p log = heeds_turn r b.parting i _ _ (off_reply p)
+  follows_turn false false true r b i p log = heeds_turn r b.parting i _ _ (off_entry p)
+  follows_turn false false false r b i p log = stays i _ _ 2 p
 
 module _ (o : Moment) (n : ℕ) where
   abbrev Holds : Play → Type 0
@@ -330,7 +352,7 @@ module _ (o : Moment) (n : ℕ) where
   held_at s i leg b lo hi t e = subst (λ j. SentBy s.log (sender leg j) b.place) (omega arith) (t.carried (i - 1) leg b (omega arith) e)
 
   ends_of : (x : Bool) (i : ℕ) → 1 ≤ i → i ≤ n → OtherEnd n (cond x 0 i) (cond x i 0)
-  ends_of true i lo hi = record { at_root = λ e. absurd (omega arith); at_party = λ e. refl }
+  ends_of true i lo hi = record { at_root = λ e. absurd (omega arith); at_party = λ e. (hi, refl) }
   ends_of false i lo hi = record { at_root = λ e. (lo, hi); at_party = λ e. absurd (omega arith) }
 
   delivers : (x : Option Beat) (i leg : ℕ) (s : Play) → on_leg leg (the i s.table) ≡ x → 1 ≤ i → i ≤ n → Holds s → Next s (delivered_as x i leg s) (beat_edge x (length s.log))
@@ -345,7 +367,7 @@ module _ (o : Moment) (n : ℕ) where
       let arrival = settles_it o n c i leg b h s.table.parties s.log lo hi t e refl refl
       (λ _. (cond x 0 i, held_at s i leg b lo hi t e, ends_of x i lo hi)) (λ is. absurd (grind arith)) in (
         turns_two o n c 2 i (off_leg leg p) (arrives c r leg b (length s.log + 1) p) s.table.parties (links c (cond x i 0) Arrived b.place s.log) _ lo hi w arrival
-            (follows_turn c x (eqb leg 2) r b i p s.log),
+            (follows_turn c x (eqb leg 2) (eqb leg 3) r b i p s.log),
         w.same ∙ arrived s.log c (cond x i 0) b.place,
       )
 
@@ -566,3 +588,8 @@ module _ (m : Meaning) (plan : Plan) (room : ℕ) where
       PutBy m plan room (opened m plan) calls i leg b
   put_by calls i leg b lo hi e =
       elim (puts calls (opened m plan) i leg b opens lo hi e) [ inl old ↦ absurd (empty (i - 1) leg b (omega arith) old) | inr put ↦ put ]
+
+  -- and the log holds its sending
+  pub held : (calls : List Call) (i leg : ℕ) (b : Beat) → 1 ≤ i → i ≤ plan.n → let s = played m plan room calls (opened m plan) in
+      on_leg leg (the i s.table) ≡ Some b → SentBy s.log (sender leg i) b.place
+  held calls i leg b lo hi e = let s = played m plan room calls (opened m plan) in held_at (at s) plan.n s i leg b lo hi (after calls).0 e

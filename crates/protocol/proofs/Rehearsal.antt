@@ -5,15 +5,23 @@ use Rattle.protocol.specs.declared.call.Step.{Step}
 use Rattle.pace.specs.Meaning.{Meaning, Lawful}
 use Rattle.protocol.specs.Group.{Play, opened}
 use Rattle.protocol.specs.Answers.{told}
-use Rattle.protocol.specs.Runs.{number, perform, played, answered}
+use Rattle.protocol.specs.Runs.{number, perform}
 use Rattle.protocol.specs.Laws.{EndTogetherForCause}
-use Rattle.protocol.specs.Beats.{BeatsAreLogged, SendingsSettleOnce, edges, deliveries}
+use Rattle.protocol.specs.Beats.{BeatsAreLogged, SendingsSettleOnce}
+use Rattle.protocol.specs.Deliveries.{RunsShowTheirBeats}
 use Rattle.protocol.specs.Order.{LogInOrder}
+use Rattle.protocol.specs.Sendings.{NoBeatVanishes}
+use Rattle.protocol.specs.Told.{TellsTheGroup}
 use Rattle.protocol.specs.Rehearsals.{Rehearsed, call_of, answer_of}
 use Rattle.protocol.specs.Promise.{KeepsTheRules}
-use Rattle.protocol.proofs.Shown.{shows, settle_once, in_order}
+use Rattle.protocol.proofs.Runs.{run_of}
+use Rattle.protocol.proofs.Ticks.{counts_ticks}
+use Rattle.protocol.proofs.Shown.{logs_beats, settle_once, in_order}
+use Rattle.protocol.proofs.Deliveries.{are_the_deliveries}
+use Rattle.protocol.proofs.Sendings.{no_beat_vanishes}
+use Rattle.protocol.proofs.Strikes.{strikes_for_good}
+use Rattle.protocol.proofs.Told.{tells_the_group}
 use Rattle.protocol.proofs.Ends.{laws}
-use Rattle.protocol.proofs.Logs.{put_by}
 use Rattle.protocol.proofs.Whole.{free_legs}
 
 pub map_set : {A B : Type 0} (f : A → B) (xs : List A) (i : ℕ) (y d : A) → f y ≡ f (get_or xs i d) → map f (set xs i y) ≡ map f xs
@@ -33,33 +41,31 @@ module _ (m : Meaning) (plan : Plan) (room : ℕ) where
   then s [] s' ys s'' h k = subst (λ t. Rehearsed m plan room t ys s'') h k
   then s (x ∷ xs) s' ys s'' h k = (h.0, then (perform m plan room x.call s) xs s' ys s'' h.1 k)
 
-  -- the steps are the run of their calls
-  run_of : (s : Play) (xs : List Step) (s' : Play) → Rehearsed m plan room s xs s' →
-      (s' ≡ played m plan room (map call_of xs) s) × (map answer_of xs ≡ answered m plan room (map call_of xs) s)
-  run_of s [] s' h = (h, refl)
-  run_of s (x ∷ xs) s' h =
-      let r = run_of (perform m plan room x.call s) xs s' h.1 in
-      (r.0, ap (λ k. k ∷ map answer_of xs) h.0 ∙ ap (λ ks. number plan room x.call s ∷ ks) r.1)
-
   -- the promise of a run, over its steps
   pub keeps : Lawful m → (xs : List Step) (s' : Play) → Rehearsed m plan room (opened m plan) xs s' → KeepsTheRules m plan room xs s'
   keeps sound xs s' h =
       let calls = map call_of xs in
-      let r = run_of (opened m plan) xs s' h in
+      let r = run_of m plan room (opened m plan) xs s' h in
       let back = sym r.0 in
       let e : EndTogetherForCause m plan calls (map answer_of xs) s' =
       subst₂ (λ ks t. EndTogetherForCause m plan calls ks t) (sym r.1) back (laws m sound plan room calls) in
-      let b = shows m sound plan room calls in
       record {
         by_the_rules = h;
+        clock_counts_the_granted_ticks = counts_ticks m plan room xs s' h;
         root_ends_within_D_of_a_party_on_the_roll = e.root_follows;
         parties_on_the_roll_end_within_D_and_a_trip_of_the_root = e.parties_follow;
         party_that_was_in_stops_no_earlier_than_the_root = e.stops_for_cause;
         nobody_stops_unharmed = e.none_stops_unharmed;
-        beats_go_back_to_their_sendings = subst (BeatsAreLogged plan) back b.0;
+        beats_go_back_to_their_sendings = subst (BeatsAreLogged plan) back (logs_beats m plan room calls);
         no_sending_settles_twice = subst (SendingsSettleOnce plan) back (settle_once m sound plan room calls);
+        no_beat_vanishes = subst (NoBeatVanishes plan) back (no_beat_vanishes m sound plan room calls);
         sends_fall_on_free_legs = λ before after call among. free_legs m sound plan room before call;
-        each_delivery_is_of_the_beat_sent_on_its_leg = λ before after call among i leg b is lo hi. put_by m plan room before i leg b lo hi;
+        struck_is_for_good = strikes_for_good m sound plan room calls;
         log_in_order = subst (LogInOrder plan) back (in_order m sound plan room calls);
-        arrivals_are_the_deliveries = subst (λ (t : Play). edges 0 t.log ≡ deliveries m plan room calls (opened m plan)) back b.1;
+        log_tells_the_group = subst (TellsTheGroup plan) back (tells_the_group m sound plan room calls);
+        edges_are_the_granted_deliveries = are_the_deliveries m plan room xs s' h;
       }
+
+pub shows : RunsShowTheirBeats
+shows m sound plan room steps s h =
+    (subst (BeatsAreLogged plan) (sym (run_of m plan room (opened m plan) steps s h).0) (logs_beats m plan room (map call_of steps)), are_the_deliveries m plan room steps s h)

@@ -9,21 +9,18 @@ use Rattle.pace.specs.Meaning.{Meaning}
 use Rattle.protocol.specs.Party.{on_leg, due}
 use Rattle.protocol.specs.Group.{Play, the, any, delivered_as, lost_as, opened}
 use Rattle.protocol.specs.Runs.{asks, is_there, is_own_log, log_asks, is_party, may_join, may_leave, is_outside, is_in, can_crash, number, done, unless, perform, played}
-use Rattle.protocol.specs.Beats.{is_arrival, happening_at, Edge, edge, edges, SourcesDiffer, RunsShowTheirBeats, RunsSettleEachSendingOnce}
+use Rattle.protocol.specs.Beats.{is_arrival, happening_at, Edge, edge, edges, SourcesDiffer, BeatsAreLogged, RunsSettleEachSendingOnce}
 use Rattle.protocol.specs.Order.{RunsKeepTheirLogInOrder}
 use Rattle.protocol.proofs.Logs.{at, after, held_at}
 use Rattle.protocol.proofs.Own.{owns}
+use Rattle.protocol.proofs.Records.{owned}
 
-pub shows : RunsShowTheirBeats
-shows m sound plan room calls =
-    let a = after m plan room calls in (
-      record {
-        on_legs = λ i leg b lo hi e. held_at (at (played m plan room calls (opened m plan))) plan.n (played m plan room calls (opened m plan)) i leg b lo hi a.0 e;
-        arrivals = a.0.linked;
-        losses = a.0.losses;
-      },
-      a.1,
-    )
+-- in every run the beats are logged
+pub logs_beats : (m : Meaning) (plan : Plan) (room : ℕ) (calls : List Call) → BeatsAreLogged plan (played m plan room calls (opened m plan))
+logs_beats m plan room calls =
+    let s = played m plan room calls (opened m plan) in
+    let t = (after m plan room calls).0 in
+    record { on_legs = λ i leg b lo hi e. held_at (at s) plan.n s i leg b lo hi t e; arrivals = t.linked; losses = t.losses }
 
 -- the edge at i is of an arrival of the log
 abbrev OfArrival : List Edge → List Happening → ℕ → Type 0
@@ -138,4 +135,4 @@ in_order m sound plan room calls =
     let s = played m plan room calls (opened m plan) in
     let o = (after m plan room calls).0.order in
     let e = counts_played m plan room calls (opened m plan) refl in
-    record { in_order = o; counted = e; never_another = λ room call. never_another plan room call s (owns s o e) }
+    record { in_order = o; owned = owned m plan room calls; counted = e; never_another = λ room call. never_another plan room call s (owns s o e) }

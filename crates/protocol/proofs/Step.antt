@@ -6,13 +6,13 @@ use Rattle.protocol.specs.declared.party.Party.{Party}
 use Rattle.protocol.specs.declared.party.Beat.{Beat}
 use Rattle.protocol.specs.declared.party.Stage.{Stage}
 use Rattle.protocol.specs.declared.party.Stage.TheVariants.{Joining, In, Leaving}
-use Rattle.protocol.specs.declared.party.Ending.{Ending}
-use Rattle.protocol.specs.declared.party.Ending.TheVariants.{Crashed, Stopped}
 use Rattle.protocol.specs.declared.party.Standing.{Standing}
 use Rattle.protocol.specs.declared.party.Standing.TheVariants.{Outside, Live, Ended}
-use Rattle.protocol.specs.declared.party.Roll.TheVariants.{On}
+use Rattle.protocol.specs.declared.party.Roll.TheVariants.{On, Struck}
 use Rattle.protocol.specs.declared.table.Root.{Root}
 use Rattle.protocol.specs.declared.table.Root.TheVariants.{Running, Down}
+use Rattle.protocol.specs.declared.table.RootEnding.{RootEnding}
+use Rattle.protocol.specs.declared.table.RootEnding.TheVariants.{Crashed as RootCrashed, Stopped as RootStopped}
 use Rattle.protocol.specs.declared.kind.GroupKind.{GroupKind}
 use Rattle.protocol.specs.declared.kind.GroupKind.TheVariants.{Closed, Expanding, Dynamic}
 use Rattle.protocol.specs.Party.{hears_as, arrives, heeds, on_leg, off_leg, off_out, off_reply, off_entry, answers, crashes, joined, now_leaving, missed, sends, missed_all, due, times, times_as, times_live, calls_in, live, fresh}
@@ -70,6 +70,9 @@ module _ (m : Terms) (kind : GroupKind) (law : LawfulTerms m kind) (q : Bool) (c
       go None f = refl
       go (Some b) f = let g = no_gap c p.own.since b.last m.tmin k.past whole in absurd (grind (arith, nat_tests))
 
+  pub no_beat_to_struck : p.note.roll ≡ Struck → p.legs.out ≡ None
+  no_beat_to_struck e = gone _ (grind (arith, nat_tests))
+
   pub drop_out : Survives (off_out p)
   drop_out = grind (arith, nat_tests)
 
@@ -79,16 +82,16 @@ module _ (m : Terms) (kind : GroupKind) (law : LawfulTerms m kind) (q : Bool) (c
   pub drop_entry : Survives (off_entry p)
   drop_entry = grind (arith, nat_tests)
 
-  pub ignore_reply : (how : Ending) (e : ℕ) → r ≡ Down how e → Keeps (off_reply p)
+  pub ignore_reply : (how : RootEnding) (e : ℕ) → r ≡ Down how e → Keeps (off_reply p)
   ignore_reply how e down = grind (arith, nat_tests)
 
-  pub ignore_entry : (how : Ending) (e : ℕ) → r ≡ Down how e → Keeps (off_entry p)
+  pub ignore_entry : (how : RootEnding) (e : ℕ) → r ≡ Down how e → Keeps (off_entry p)
   ignore_entry how e down = grind (arith, nat_tests)
 
   arrive_as :
       (x y z : Bool) (r' : Root) (b : Beat) (place : ℕ) → r ≡ r' →
       cond x p.legs.out (cond y p.legs.reply (cond z p.legs.entry None)) ≡ Some b →
-      Keeps (cond x (hears_as p.own.standing c place b.last (off_out p)) (heeds r' b.parting (cond x (off_out p) (cond y (off_reply p) (off_entry p)))))
+      Keeps (cond x (hears_as p.own.standing c place b.last (off_out p)) (cond y (heeds r' b.parting (off_reply p)) (cond z (heeds r' b.parting (off_entry p)) p)))
   arrive_as true y z r' b place e f = hear place b f
   arrive_as false true z Running b place e f = answer b f e
   arrive_as false true z (Down how at) b place e f = ignore_reply how at e
@@ -99,18 +102,19 @@ module _ (m : Terms) (kind : GroupKind) (law : LawfulTerms m kind) (q : Bool) (c
   pub arrive : (leg : ℕ) (b : Beat) (place : ℕ) → on_leg leg p ≡ Some b → Keeps (arrives c r leg b place p)
   arrive leg b place e = arrive_as (eqb leg 1) (eqb leg 2) (eqb leg 3) r b place refl e
 
-  drop_as : (x y : Bool) → Survives (cond x (off_out p) (cond y (off_reply p) (off_entry p)))
-  drop_as true y = drop_out
-  drop_as false true = drop_reply
-  drop_as false false = drop_entry
-
-  pub lose : (leg : ℕ) → Survives (off_leg leg p)
-  lose leg = drop_as (eqb leg 1) (eqb leg 2)
-
   pub elsewhere : Survives p
   elsewhere = grind (arith, nat_tests)
 
-  pub root_crashes : r ≡ Running → Kept m kind false c (Down Crashed c) a l p
+  drop_as : (x y z : Bool) → Survives (cond x (off_out p) (cond y (off_reply p) (cond z (off_entry p) p)))
+  drop_as true y z = drop_out
+  drop_as false true z = drop_reply
+  drop_as false false true = drop_entry
+  drop_as false false false = elsewhere
+
+  pub lose : (leg : ℕ) → Survives (off_leg leg p)
+  lose leg = drop_as (eqb leg 1) (eqb leg 2) (eqb leg 3)
+
+  pub root_crashes : r ≡ Running → Kept m kind false c (Down RootCrashed c) a l p
   root_crashes up = grind (arith, nat_tests)
 
   pub crash : Survives (crashes c p)
@@ -122,7 +126,7 @@ module _ (m : Terms) (kind : GroupKind) (law : LawfulTerms m kind) (q : Bool) (c
   pub leave : (kind ≡ Closed → ⊥) → p.own.standing ≡ Live In → Keeps (now_leaving p)
   leave wide e = grind (arith, nat_tests)
 
-  pub root_stops : r ≡ Running → q ≡ false → Kept m kind q c (Down Stopped c) a l (missed p)
+  pub root_stops : r ≡ Running → q ≡ false → Kept m kind q c (Down RootStopped c) a l (missed p)
   root_stops up bad = grind (arith, nat_tests)
 
   pub next_round :

@@ -5,13 +5,13 @@ use Rattle.std.proofs.lemmas.Bool.Decides.{nat_tests}
 use Rattle.std.proofs.lemmas.Option.{slice_get-get_or}
 use Rattle.protocol.specs.declared.party.Party.{Party}
 use Rattle.protocol.specs.declared.party.Beat.{Beat}
-use Rattle.protocol.specs.declared.party.Ending.TheVariants.{Stopped}
 use Rattle.protocol.specs.declared.party.Stage.TheVariants.{In}
 use Rattle.protocol.specs.declared.party.Standing.{Standing}
 use Rattle.protocol.specs.declared.party.Standing.TheVariants.{Outside, Live}
-use Rattle.protocol.specs.declared.party.Roll.TheVariants.{On}
+use Rattle.protocol.specs.declared.party.Roll.TheVariants.{On, Struck}
 use Rattle.protocol.specs.declared.table.Root.{Root}
 use Rattle.protocol.specs.declared.table.Root.TheVariants.{Running, Down}
+use Rattle.protocol.specs.declared.table.RootEnding.TheVariants.{Stopped as RootStopped}
 use Rattle.protocol.specs.declared.kind.GroupKind.{GroupKind}
 use Rattle.protocol.specs.declared.kind.GroupKind.TheVariants.{Closed}
 use Rattle.protocol.specs.declared.happening.Happening.{Happening}
@@ -28,7 +28,7 @@ use Rattle.protocol.specs.Beats.{FreeFor, BeatsTakeFreeLegs}
 use Rattle.protocol.specs.Kept.{Terms, LawfulTerms, Kept, Scene, Whole, terms}
 use Rattle.protocol.proofs.Numbers.{lawful}
 use Rattle.protocol.proofs.Step as step
-use Rattle.protocol.proofs.Asked.{asked_party}
+use Rattle.protocol.proofs.Asked.{asked_party, asked_beat}
 use Rattle.protocol.proofs.Lifts.{set_each, walks_long, walks_each, any_false, false_any, folds_falls, folds_below, folds_above}
 
 clash : (b : Bool) → b ≡ true → b ≡ false → ⊥
@@ -153,7 +153,7 @@ module _ (μ : Meaning) (sound : Lawful μ) (kind : GroupKind) (n : ℕ) where
     stops bad = record {
       whole = record {
         scene = let x = w.scene in grind arith;
-        each = λ k h. subst (λ p. Kept M kind q s.table.clock (Down Stopped s.table.clock) s.table.start s.table.length p)
+        each = λ k h. subst (λ p. Kept M kind q s.table.clock (Down RootStopped s.table.clock) s.table.start s.table.length p)
             (sym (counted_at s k h w.long)) (step.root_stops M kind law q _ _ _ _ w.scene _ (w.each k h) up bad);
         long = ps_long;
       };
@@ -301,9 +301,6 @@ module _ (μ : Meaning) (sound : Lawful μ) (plan : Plan) (room : ℕ) where
 
   -- the legs that a call puts beats on are free
 
-  asked_beat : (i : ℕ) (o : Option Beat) (x : ℕ) → asks (is_party plan.n i) 6 (asks (is_there o) 9 x) ≡ 0 → (1 ≤ i) × (i ≤ plan.n) × (is_there o ≡ true)
-  asked_beat i o x e = grind (arith, nat_tests)
-
   frees : (q : Bool) (call : Call) (s : Play) → number plan room call s ≡ 0 → Fine q s → FreeFor μ plan call s
   frees q Tick s e w = λ i lo hi.
       let k = w.each (i - 1) (omega arith) in
@@ -313,7 +310,7 @@ module _ (μ : Meaning) (sound : Lawful μ) (plan : Plan) (room : ℕ) where
         (λ joins lo whole. step.free_entry _ _ L q _ _ _ _ w.scene _ k joins quiet lo whole),
       )
   frees q (Deliver i leg) s e w = λ first.
-      let a = asked_beat i (on_leg leg (the i s.table)) _ e in
+      let a = asked_beat plan.n i (on_leg leg (the i s.table)) _ e in
       go a.0 a.1 (on_leg leg (the i s.table)) refl a.2 first
     where
       go : 1 ≤ i → i ≤ plan.n → (o : Option Beat) → on_leg leg (the i s.table) ≡ o → is_there o ≡ true → leg ≡ 1 → (the i s.table).legs.reply ≡ None
@@ -332,3 +329,11 @@ module _ (μ : Meaning) (sound : Lawful μ) (plan : Plan) (room : ℕ) where
 pub free_legs : BeatsTakeFreeLegs
 free_legs μ sound plan room calls call e =
     frees μ sound plan room _ call (played μ plan room calls (opened μ plan)) e (plays μ sound plan room true calls (opened μ plan) (opens μ sound plan room true))
+
+-- no beat of the root is on its way to a struck party
+pub no_beat_of_the_root :
+    (μ : Meaning) → Lawful μ → (plan : Plan) (room : ℕ) (calls : List Call) (i : ℕ) → 1 ≤ i → i ≤ plan.n →
+    let s = played μ plan room calls (opened μ plan) in (the i s.table).note.roll ≡ Struck → (the i s.table).legs.out ≡ None
+no_beat_of_the_root μ sound plan room calls i lo hi e =
+    let w = plays μ sound plan room true calls (opened μ plan) (opens μ sound plan room true) in
+    step.no_beat_to_struck _ _ (law μ sound plan.kind plan.n) _ _ _ _ _ w.scene _ (w.each (i - 1) (omega arith)) e

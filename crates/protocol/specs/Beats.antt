@@ -1,5 +1,5 @@
 -- The beats of a run as its log shows them: each is sent once, and arrives or is lost at most once.
-use Rattle.std.specs.Prelude.{◌≡◌, ℕ, zero, suc, ◌-◌, ◌%◌, ◌<◌, ◌≤◌, Bool, true, false, cond, ◌||◌, List, [], ◌∷◌, ◌++◌, length, get_or, Some, None, Option, ◌≢◌, slice_index_or}
+use Rattle.std.specs.Prelude.{◌≡◌, ℕ, suc, ◌-◌, ◌%◌, ◌<◌, ◌≤◌, Bool, true, false, cond, ◌||◌, List, [], ◌∷◌, ◌++◌, length, get_or, Some, None, ◌≢◌, slice_index_or}
 use Rattle.protocol.specs.declared.party.Beat.{Beat}
 use Rattle.protocol.specs.declared.party.Standing.TheVariants.{Live}
 use Rattle.protocol.specs.declared.party.Stage.TheVariants.{Joining as Joins}
@@ -57,10 +57,10 @@ pub record SentBy (log : List Happening) (o k : ℕ) : Type 0 where
   pub kind : (happening_at log k).kind ≡ Sent
   pub owner : (happening_at log k).owner ≡ o
 
--- o and r are the two ends of a leg: the root, and a party
+-- o and r are the two ends of a leg: the root, and a party of the plan
 pub record OtherEnd (n o r : ℕ) : Type 0 where
   pub at_root : r ≡ 0 → (1 ≤ o) × (o ≤ n)
-  pub at_party : 1 ≤ r → o ≡ 0
+  pub at_party : 1 ≤ r → (r ≤ n) × (o ≡ 0)
 
 -- the record h at place k links to an earlier sending by the other end, as an arrival does
 pub record LinkedAt (n : ℕ) (log : List Happening) (k : ℕ) (h : Happening) : Type 0 where
@@ -97,37 +97,11 @@ abbrev pub edges : ℕ → List Happening → List Edge
 edges k [] = []
 edges k (h ∷ log) = cond (is_arrival h.kind) (edge h.link k ∷ edges (suc k) log) (edges (suc k) log)
 
-abbrev pub beat_edge : Option Beat → ℕ → List Edge
-beat_edge None k = []
-beat_edge (Some b) k = edge b.place k ∷ []
-
--- the edge of a delivery that is not refused: from the sending of the beat on the leg to the log's next place
-abbrev pub delivery : Call → ℕ → Play → List Edge
-delivery Tick k s = []
-delivery (Deliver i leg) zero s = beat_edge (on_leg leg (the i s.table)) (length s.log)
-delivery (Deliver i leg) (suc k) s = []
-delivery (Lose i leg) k s = []
-delivery (Crash i) k s = []
-delivery (Join i) k s = []
-delivery (Leave i) k s = []
-
--- the deliveries of a run that were not refused, in their order
-abbrev pub deliveries : Meaning → Plan → ℕ → List Call → Play → List Edge
-deliveries m plan room [] s = []
-deliveries m plan room (call ∷ calls) s = delivery call (number plan room call s) s ++ deliveries m plan room calls (perform m plan room call s)
-
 -- each beat on a leg and each arrival goes back to a sending by the right end, each loss to one by its owner
 pub record BeatsAreLogged (plan : Plan) (s : Play) : Type 0 where
   pub on_legs : (i leg : ℕ) (b : Beat) → 1 ≤ i → i ≤ plan.n → on_leg leg (the i s.table) ≡ Some b → SentBy s.log (sender leg i) b.place
   pub arrivals : Linked plan.n s.log
   pub losses : LossesLinked s.log
-
--- in every run the beats are logged, and the edges of the log are the deliveries
-abbrev pub RunsShowTheirBeats : Type 0
-RunsShowTheirBeats =
-    (m : Meaning) → Lawful m → (plan : Plan) (room : ℕ) (calls : List Call) →
-    BeatsAreLogged plan (played m plan room calls (opened m plan))
-    × (edges 0 (played m plan room calls (opened m plan)).log ≡ deliveries m plan room calls (opened m plan))
 
 -- no two arrivals or losses link to the same place
 abbrev pub SettledOnce : List Happening → Type 0

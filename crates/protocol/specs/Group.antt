@@ -11,6 +11,7 @@ use Rattle.protocol.specs.declared.party.Roll.{Roll}
 use Rattle.protocol.specs.declared.party.Roll.TheVariants.{Off, On, Struck}
 use Rattle.protocol.specs.declared.table.Root.{Root}
 use Rattle.protocol.specs.declared.table.Root.TheVariants.{Running, Down}
+use Rattle.protocol.specs.declared.table.RootEnding.TheVariants.{Crashed as RootCrashed, Stopped as RootStopped}
 use Rattle.protocol.specs.declared.happening.HappeningKind.{HappeningKind}
 use Rattle.protocol.specs.declared.happening.HappeningKind.TheVariants.{Sent, Arrived, Lost, Enrolled}
 use Rattle.protocol.specs.declared.happening.HappeningKind.TheVariants.{Struck as IsStruck, Crashed as HasCrashed, Stopped as HasStopped, Left as HasLeft, Joining as IsJoining, Leaving as IsLeaving}
@@ -111,7 +112,7 @@ loses i leg s = lost_as (on_leg leg (the i s.table)) i leg s
 -- crash, join, leave
 
 abbrev pub root_crashed : Root → ℕ → Root
-root_crashed Running clock = Down Crashed clock
+root_crashed Running clock = Down RootCrashed clock
 root_crashed (Down how at) clock = Down how at
 
 -- the root crashes, which is party 0, or another party
@@ -173,7 +174,7 @@ abbrev pub stopped : Play → Play
 stopped s =
     let t = s.table in
     record {
-      table = record { clock = t.clock; root = Down Stopped t.clock; start = t.start; length = t.length; logged = t.logged; parties = t.parties };
+      table = record { clock = t.clock; root = Down RootStopped t.clock; start = t.start; length = t.length; logged = t.logged; parties = t.parties };
       log = tells_of t.clock 0 HasStopped s.log;
     }
 

@@ -101,7 +101,7 @@ Rolled In On g = Staying g.reply
 Rolled In Struck g = ⊥
 Rolled Leaving Off g = ⊥
 Rolled Leaving On g = Unit {0}
-Rolled Leaving Struck g = Unit {0}
+Rolled Leaving Struck g = Gone g.out × Gone g.reply
 
 -- an outside party is off the roll and has nothing on its legs
 abbrev pub Unrolled : Roll → Legs → Type 0

@@ -8,6 +8,8 @@ use Rattle.protocol.specs.declared.party.Ending.TheVariants.{Stopped}
 use Rattle.protocol.specs.declared.party.Standing.TheVariants.{Ended}
 use Rattle.protocol.specs.declared.party.Roll.TheVariants.{On}
 use Rattle.protocol.specs.declared.table.Root.TheVariants.{Down}
+use Rattle.protocol.specs.declared.table.RootEnding.{RootEnding}
+use Rattle.protocol.specs.declared.table.RootEnding.TheVariants.{Stopped as RootStopped}
 use Rattle.protocol.specs.declared.plan.Plan.{Plan}
 use Rattle.protocol.specs.declared.call.Call.{Call}
 use Rattle.pace.specs.Meaning.{Meaning, Lawful}
@@ -24,7 +26,7 @@ EndedAt p e = (how : Ending) × (g : Stage) × (p.own.standing ≡ Ended how e g
 
 -- the root ended at tick e
 abbrev pub RootEndedAt : Play → ℕ → Type 0
-RootEndedAt s e = (how : Ending) × (s.table.root ≡ Down how e)
+RootEndedAt s e = (how : RootEnding) × (s.table.root ≡ Down how e)
 
 -- where a party on the roll has ended, the root ends within the patience of a party
 pub record RootFollows (m : Meaning) (plan : Plan) (s : Play) : Type 0 where
@@ -45,7 +47,7 @@ pub record StopsForCause (plan : Plan) (s : Play) : Type 0 where
 
 -- neither the root nor a party has stopped
 pub record NobodyStopped (plan : Plan) (s : Play) : Type 0 where
-  pub root_not : (e : ℕ) → s.table.root ≢ Down Stopped e
+  pub root_not : (e : ℕ) → s.table.root ≢ Down RootStopped e
   pub party_not : (i e : ℕ) (g : Stage) → 1 ≤ i → i ≤ plan.n → (the i s.table).own.standing ≢ Ended Stopped e g
 
 -- the four laws of the end; the last wants that each loss and crash was refused

@@ -1,4 +1,5 @@
 pub mod Words
+pub mod Texts
 pub mod Kinds
 pub mod Answers
 pub mod Plans
@@ -13,6 +14,10 @@ pub mod Laws
 pub mod Beats
 pub mod Order
 pub mod Rehearsals
+pub mod Deliveries
+pub mod Strikes
+pub mod Told
+pub mod Sendings
 pub mod Kept
 pub mod Views
 pub mod Promise

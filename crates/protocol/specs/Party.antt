@@ -1,5 +1,5 @@
 -- One party, with the root's note of it and its three legs: what each step makes of it.
-use Rattle.std.specs.Prelude.{ℕ, ◌+◌, ◌-◌, ◌%◌, Bool, true, false, cond, ◌&&◌, ◌||◌, Some, None, Option, ◌==◌, nat_le, nat_lt}
+use Rattle.std.specs.Prelude.{ℕ, min, ◌+◌, ◌-◌, ◌%◌, Bool, true, false, cond, ◌&&◌, ◌||◌, Some, None, Option, ◌==◌, nat_le, nat_lt}
 use Rattle.protocol.specs.declared.party.Party.{Party}
 use Rattle.protocol.specs.declared.party.Note.{Note}
 use Rattle.protocol.specs.declared.party.Own.{Own}
@@ -71,9 +71,9 @@ off_reply p = party p.note p.own (legs_of p.legs.out None p.legs.entry)
 abbrev pub off_entry : Party → Party
 off_entry p = party p.note p.own (legs_of p.legs.out p.legs.reply None)
 
--- the beat on the leg is taken off
+-- the beat on the leg is taken off; any other leg is none
 abbrev pub off_leg : ℕ → Party → Party
-off_leg leg p = cond (leg == 1) (off_out p) (cond (leg == 2) (off_reply p) (off_entry p))
+off_leg leg p = cond (leg == 1) (off_out p) (cond (leg == 2) (off_reply p) (cond (leg == 3) (off_entry p) p))
 
 -- deliver
 
@@ -112,10 +112,11 @@ abbrev pub heeds : Root → Bool → Party → Party
 heeds Running parting p = answers parting p
 heeds (Down how at) parting p = p
 
--- the beat b arrives from its leg; a reply to it is sent at place
+-- the beat b arrives from its leg, on leg 1 at the party, whose reply is sent at place, and on legs 2 and 3 at the root
 abbrev pub arrives : ℕ → Root → ℕ → Beat → ℕ → Party → Party
 arrives clock root leg b place p =
-    cond (leg == 1) (hears_as p.own.standing clock place b.last (off_out p)) (heeds root b.parting (off_leg leg p))
+    cond (leg == 1) (hears_as p.own.standing clock place b.last (off_out p))
+    (cond (leg == 2) (heeds root b.parting (off_reply p)) (cond (leg == 3) (heeds root b.parting (off_entry p)) p))
 
 -- crash, join, leave
 
@@ -154,6 +155,15 @@ missed_as Struck n = n
 
 abbrev pub missed : Party → Party
 missed p = party (missed_as p.note.roll p.note) p.own p.legs
+
+-- the same where a count goes no further than `most`
+abbrev pub missed_up_to : ℕ → Roll → Note → Note
+missed_up_to most On n = noted On n.heard (min (cond n.heard 0 (n.misses + 1)) most)
+missed_up_to most Off n = n
+missed_up_to most Struck n = n
+
+abbrev pub missed_to : ℕ → Party → Party
+missed_to most p = party (missed_up_to most p.note.roll p.note) p.own p.legs
 
 -- a party on the roll that has missed all the rounds of the pace
 abbrev pub missed_all : ℕ → Party → Bool

@@ -1,18 +1,19 @@
 -- The promise of a run: what holds of a group and its log after any calls, refused ones too, from the opening on.
-use Rattle.std.specs.Prelude.{◌≡◌, ℕ, ◌≤◌, true, List, ◌∷◌, ◌++◌, map, Some}
+use Rattle.std.specs.Prelude.{◌≡◌, ℕ, true, List, ◌∷◌, ◌++◌, map}
 use Rattle.pace.specs.Meaning.{Meaning}
-use Rattle.protocol.specs.declared.party.Beat.{Beat}
 use Rattle.protocol.specs.declared.plan.Plan.{Plan}
 use Rattle.protocol.specs.declared.call.Call.{Call}
-use Rattle.protocol.specs.declared.call.Call.TheVariants.{Deliver}
 use Rattle.protocol.specs.declared.call.Step.{Step}
-use Rattle.protocol.specs.Party.{on_leg}
-use Rattle.protocol.specs.Group.{Play, the, opened}
+use Rattle.protocol.specs.Group.{Play, opened}
 use Rattle.protocol.specs.Runs.{number, played, unharmed}
 use Rattle.protocol.specs.Laws.{RootFollows, PartiesFollow, StopsForCause, NobodyStopped}
-use Rattle.protocol.specs.Beats.{BeatsAreLogged, SendingsSettleOnce, FreeFor, PutBy, edges, deliveries}
+use Rattle.protocol.specs.Beats.{BeatsAreLogged, SendingsSettleOnce, FreeFor, edges}
 use Rattle.protocol.specs.Order.{LogInOrder}
-use Rattle.protocol.specs.Rehearsals.{Rehearsed, call_of, answer_of}
+use Rattle.protocol.specs.Rehearsals.{Rehearsed, call_of, answer_of, granted_ticks}
+use Rattle.protocol.specs.Deliveries.{EdgesAreTheDeliveries}
+use Rattle.protocol.specs.Sendings.{NoBeatVanishes}
+use Rattle.protocol.specs.Strikes.{StruckForGood}
+use Rattle.protocol.specs.Told.{TellsTheGroup}
 
 -- what is said of each call among the calls, and of those before it
 abbrev pub AtEachCall : List Call → (List Call → Call → Type 0) → Type 0
@@ -23,16 +24,12 @@ abbrev pub SendsOnFreeLegs : Meaning → Plan → ℕ → List Call → Call →
 SendsOnFreeLegs m plan room before call =
     let s = played m plan room before (opened m plan) in number plan room call s ≡ 0 → FreeFor m plan call s
 
--- the beat that the call delivers was put on that very leg by the call that wrote the record of its sending
-abbrev pub DeliversWhatWasSent : Meaning → Plan → ℕ → List Call → Call → Type 0
-DeliversWhatWasSent m plan room before call =
-    (i leg : ℕ) (b : Beat) → call ≡ Deliver i leg → 1 ≤ i → i ≤ plan.n → on_leg leg (the i (played m plan room before (opened m plan)).table) ≡ Some b →
-    PutBy m plan room (opened m plan) before i leg b
-
 -- of a group opened new from a plan and a pace of that meaning, over so many slots, after the steps
 pub record KeepsTheRules (m : Meaning) (plan : Plan) (room : ℕ) (steps : List Step) (s : Play) : Type 0 where
   -- each call did and answered what the rules say
   pub by_the_rules : Rehearsed m plan room (opened m plan) steps s
+  -- the clock tells how many ticks were granted
+  pub clock_counts_the_granted_ticks : s.table.clock ≡ granted_ticks steps
   -- a party on the roll ended at tick c and the clock is past c + D: the root has ended
   pub root_ends_within_D_of_a_party_on_the_roll : RootFollows m plan s
   -- the root ended at tick c and the clock is past c + D + trip: each party on the roll has ended
@@ -45,11 +42,15 @@ pub record KeepsTheRules (m : Meaning) (plan : Plan) (room : ℕ) (steps : List 
   pub beats_go_back_to_their_sendings : BeatsAreLogged plan s
   -- no sending is the source of two: each arrives or is lost once at most
   pub no_sending_settles_twice : SendingsSettleOnce plan s
+  -- no beat vanishes: each sending has arrived, is lost or is under way
+  pub no_beat_vanishes : NoBeatVanishes plan s
   -- no call puts a beat on a leg that holds one
   pub sends_fall_on_free_legs : AtEachCall (map call_of steps) (SendsOnFreeLegs m plan room)
-  -- a delivery takes the very beat that was sent on its leg
-  pub each_delivery_is_of_the_beat_sent_on_its_leg : AtEachCall (map call_of steps) (DeliversWhatWasSent m plan room)
-  -- the ticks of the log never fall, none is later than the clock, and the group never takes its log for another's
+  -- from its striking on, a party is struck after each call, and no beat goes out to it
+  pub struck_is_for_good : StruckForGood m plan room (map call_of steps)
+  -- the ticks of the log never fall, none is later than the clock, each record is of the root or a party of the plan, and the group never takes its log for another's
   pub log_in_order : LogInOrder plan s
-  -- the arrivals of the log are the deliveries not refused, in their order
-  pub arrivals_are_the_deliveries : edges 0 s.log ≡ deliveries m plan room (map call_of steps) (opened m plan)
+  -- the log tells where each party stands, when it last heard and whether it is on the roll, and how the root is
+  pub log_tells_the_group : TellsTheGroup plan s
+  -- the edges of the log are the granted deliveries, in their order: from the sending that put the beat on its leg to its arrival
+  pub edges_are_the_granted_deliveries : EdgesAreTheDeliveries m plan room steps s.log (edges 0 s.log)

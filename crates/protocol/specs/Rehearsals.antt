@@ -1,10 +1,11 @@
 -- A run as the steps that were taken, each a call with its answer.
-use Rattle.std.specs.Prelude.{◌≡◌, ℕ, List, [], ◌∷◌}
+use Rattle.std.specs.Prelude.{◌≡◌, ℕ, ◌+◌, Bool, cond, List, [], ◌∷◌, is_ok}
 use Rattle.protocol.specs.declared.plan.Plan.{Plan}
 use Rattle.protocol.specs.declared.call.Call.{Call}
+use Rattle.protocol.specs.declared.call.Call.TheVariants.{Tick, Deliver, Lose, Crash, Join, Leave}
 use Rattle.protocol.specs.declared.call.Step.{Step}
 use Rattle.pace.specs.Meaning.{Meaning}
-use Rattle.protocol.specs.Group.{Play}
+use Rattle.protocol.specs.Group.{Play, opened}
 use Rattle.protocol.specs.Answers.{told}
 use Rattle.protocol.specs.Runs.{number, perform}
 
@@ -19,3 +20,23 @@ answer_of x = told x.answer
 abbrev pub Rehearsed : Meaning → Plan → ℕ → Play → List Step → Play → Type 0
 Rehearsed m plan room s [] s' = s' ≡ s
 Rehearsed m plan room s (x ∷ xs) s' = (told x.answer ≡ number plan room x.call s) × Rehearsed m plan room (perform m plan room x.call s) xs s'
+
+-- what a call adds to the clock, if it was granted
+abbrev pub adds : Call → Bool → ℕ
+adds Tick granted = cond granted 1 0
+adds (Deliver i leg) granted = 0
+adds (Lose i leg) granted = 0
+adds (Crash i) granted = 0
+adds (Join i) granted = 0
+adds (Leave i) granted = 0
+
+-- the ticks among the steps that were granted: so many
+abbrev pub granted_ticks : List Step → ℕ
+granted_ticks [] = 0
+granted_ticks (x ∷ xs) = adds x.call (is_ok x.answer) + granted_ticks xs
+
+-- in every run the clock tells how many ticks were granted
+abbrev pub RunsCountTheirTicks : Type 0
+RunsCountTheirTicks =
+    (m : Meaning) (plan : Plan) (room : ℕ) (steps : List Step) (s : Play) →
+    Rehearsed m plan room (opened m plan) steps s → s.table.clock ≡ granted_ticks steps

@@ -13,7 +13,7 @@ use Rattle.protocol.specs.declared.call.Call.TheVariants.{Tick, Deliver, Lose, C
 use Rattle.slots.specs.Slots.{last_time}
 use Rattle.pace.specs.Meaning.{Meaning}
 use Rattle.protocol.specs.Party.{live, due, on_leg}
-use Rattle.protocol.specs.Group.{Play, the, any, runs, delivered, loses, crashed, joins, leaves, ticked}
+use Rattle.protocol.specs.Group.{Play, the, any, runs, delivered, loses, crashed, joins, leaves, ticked, opened}
 
 -- a question: its answer, its number, and what the later questions come to; 0 where each has a yes
 abbrev pub asks : Bool → ℕ → ℕ → ℕ
@@ -110,6 +110,10 @@ perform m plan room call s = unless (number plan room call s) s (done m plan cal
 abbrev pub played : Meaning → Plan → ℕ → List Call → Play → Play
 played m plan room [] s = s
 played m plan room (call ∷ calls) s = played m plan room calls (perform m plan room call s)
+
+-- the group and its log that the calls lead to, from the opening on
+abbrev pub reached : Meaning → Plan → ℕ → List Call → Play
+reached m plan room calls = played m plan room calls (opened m plan)
 
 -- the answers of a run
 abbrev pub answered : Meaning → Plan → ℕ → List Call → Play → List ℕ

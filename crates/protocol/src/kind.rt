@@ -1,7 +1,8 @@
 // Which groups there are.
-ghost use Rattle.std.specs.Prelude.{◌≡◌};
+ghost use Rattle.std.specs.Prelude.{◌≡◌, Some};
 ghost use Rattle.std.specs.Option.{ok_or};
-ghost use Rattle.protocol.specs.Kinds.{group_kind, group_number};
+ghost use Rattle.protocol.specs.Kinds.{group_kind, group_number, unknown_number};
+ghost use Rattle.protocol.specs.Texts.{kind_text};
 
 use std::fmt;
 
@@ -16,9 +17,18 @@ pub enum GroupKind {
     Dynamic = 3,
 }
 
-// A number that stands for no kind.
+// A number that stands for no kind: question 16.
 #[derive(Clone, Copy, Debug, PartialEq, Eq)]
 pub struct UnknownKind(pub u8);
+
+impl UnknownKind {
+    // Not a `From`: a byte alone would not say that it is the number of a question.
+    pub fn number(self) -> u8
+        ensures { result ≡ unknown_number self }
+    {
+        16
+    }
+}
 
 impl TryFrom<u8> for GroupKind {
     type Error = UnknownKind;
@@ -44,6 +54,8 @@ impl From<GroupKind> for u8 {
 }
 
 impl fmt::Display for GroupKind {
+    ghost output = { λ x. Some (kind_text x) };
+
     fn fmt<W: fmt::Write>(&self, f: &mut fmt::Formatter<W>) -> fmt::Result {
         f.write_str(match self {
             GroupKind::Closed => "closed",

@@ -9,5 +9,5 @@ pub mod member;
 pub mod party;
 pub mod plan;
 pub mod refusal;
-pub mod steps;
+mod steps;
 pub mod table;

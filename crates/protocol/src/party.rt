@@ -1,4 +1,6 @@
 // One party of a group, as itself and as the root notes it.
+ghost use Rattle.std.specs.Prelude.{Some};
+ghost use Rattle.protocol.specs.Texts.{stage_text, ending_text};
 
 use std::fmt;
 
@@ -11,6 +13,8 @@ pub enum Stage {
 }
 
 impl fmt::Display for Stage {
+    ghost output = { λ x. Some (stage_text x) };
+
     fn fmt<W: fmt::Write>(&self, f: &mut fmt::Formatter<W>) -> fmt::Result {
         f.write_str(match self {
             Stage::Joining => "joining",
@@ -20,7 +24,7 @@ impl fmt::Display for Stage {
     }
 }
 
-// How a party or the root has ended; only a leaving party ends as left.
+// How a party has ended; only a leaving one ends as left.
 #[derive(Clone, Copy, Debug, PartialEq, Eq)]
 pub enum Ending {
     Crashed,
@@ -29,6 +33,8 @@ pub enum Ending {
 }
 
 impl fmt::Display for Ending {
+    ghost output = { λ x. Some (ending_text x) };
+
     fn fmt<W: fmt::Write>(&self, f: &mut fmt::Formatter<W>) -> fmt::Result {
         f.write_str(match self {
             Ending::Crashed => "crashed",

@@ -1,6 +1,7 @@
 // Why a call of a group is refused.
-ghost use Rattle.std.specs.Prelude.{◌≡◌};
+ghost use Rattle.std.specs.Prelude.{◌≡◌, Some};
 ghost use Rattle.protocol.specs.Answers.{refusal_number};
+ghost use Rattle.protocol.specs.Texts.{refusal_text};
 
 use std::fmt;
 
@@ -36,6 +37,8 @@ impl Refusal {
 
 // The question that was answered no.
 impl fmt::Display for Refusal {
+    ghost output = { λ x. Some (refusal_text x) };
+
     fn fmt<W: fmt::Write>(&self, f: &mut fmt::Formatter<W>) -> fmt::Result {
         f.write_str(match self {
             Refusal::NoSuchParty => "is the party one of the plan's?",

@@ -1,6 +1,6 @@
 // The steps of one party, each in place: the calls of a group are made of them.
 ghost use Rattle.std.specs.Prelude.{◌≡◌, ◌<◌};
-ghost use Rattle.protocol.specs.Party.{beat, live, on_roll, hears_as, answers, missed, crashes, sends, due, due_on, missed_all, times, on_leg, off_leg, arrives, joined};
+ghost use Rattle.protocol.specs.Party.{beat, live, on_roll, hears_as, answers, missed_to, crashes, sends, due, due_on, missed_all, times, on_leg, off_leg, arrives, joined};
 ghost use Rattle.protocol.specs.Group.{timer_word};
 
 use crate::happening::HappeningKind;
@@ -23,7 +23,7 @@ impl Beat {
 impl Party {
     // A beat of the root arrives at the party, which replies to it while it lives; answers whether it does.
     // The reply keeps the beat's last tick, so that a round trip fits into one trip time.
-    pub fn hear(&mut self, clock: u32, beat: Beat, place: usize) -> bool
+    fn hear(&mut self, clock: u32, beat: Beat, place: usize) -> bool
         ensures answer { result ≡ live self.old.own.standing }
         ensures after { self.new ≡ hears_as self.old.own.standing clock place beat.last self.old }
     {
@@ -46,7 +46,7 @@ impl Party {
     }
 
     // A beat of the party arrives at a running root. Struck comes first: a late beat never enrols such a party again.
-    pub fn answer(&mut self, parting: bool)
+    fn answer(&mut self, parting: bool)
         ensures { self.new ≡ answers parting self.old }
     {
         match (self.note.roll, parting) {
@@ -75,9 +75,9 @@ impl Party {
         }
     }
 
-    // The end of a round as the root notes it; no run comes near the number at which the count would stay.
+    // The end of a round as the root notes it; no run comes near the number at which the count stays.
     pub fn miss(&mut self)
-        ensures { self.old.note.misses < 4294967295 → self.new ≡ missed self.old }
+        ensures { self.new ≡ missed_to 4294967295 self.old }
     {
         if self.note.roll == Roll::On {
             self.note.misses = if self.note.heard {
@@ -160,26 +160,29 @@ impl Party {
         }
     }
 
-    // Any number but 1 and 2 means leg 3; calls ask for the leg first.
+    // On any other number nothing is taken off; calls ask for the leg first.
     pub fn take_off(&mut self, leg: u8)
         ensures { self.new ≡ off_leg leg self.old }
     {
         match leg {
             1 => self.legs.out = None,
             2 => self.legs.reply = None,
-            _ => self.legs.entry = None,
+            3 => self.legs.entry = None,
+            _ => {}
         }
     }
 
-    // The beat arrives from its leg: at the party from leg 1, at the root from the others. A root that has ended does nothing more.
+    // The beat arrives from its leg: at the party from leg 1, at the root from legs 2 and 3. A root that has ended does nothing more.
     pub fn arrive(&mut self, clock: u32, root: Root, leg: u8, beat: Beat, place: usize)
         ensures { self.new ≡ arrives clock root leg beat place self.old }
     {
         self.take_off(leg);
-        if leg == 1 {
-            let _ = self.hear(clock, beat, place);
-        } else if root == Root::Running {
-            self.answer(beat.parting);
+        match (leg, root) {
+            (1, _) => {
+                let _ = self.hear(clock, beat, place);
+            }
+            (2 | 3, Root::Running) => self.answer(beat.parting),
+            _ => {}
         }
     }
 

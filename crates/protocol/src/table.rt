@@ -1,14 +1,34 @@
 // All that a group changes.
-ghost use Rattle.std.specs.Prelude.{◌≡◌, take};
+ghost use Rattle.std.specs.Prelude.{◌≡◌, Some, take};
+ghost use Rattle.protocol.specs.Texts.{root_ending_text};
 
-use crate::party::{Ending, Party};
+use crate::party::Party;
 use crate::plan::Plan;
+use std::fmt;
+
+// How the root has ended; it never leaves.
+#[derive(Clone, Copy, Debug, PartialEq, Eq)]
+pub enum RootEnding {
+    Crashed,
+    Stopped,
+}
+
+impl fmt::Display for RootEnding {
+    ghost output = { λ x. Some (root_ending_text x) };
+
+    fn fmt<W: fmt::Write>(&self, f: &mut fmt::Formatter<W>) -> fmt::Result {
+        f.write_str(match self {
+            RootEnding::Crashed => "crashed",
+            RootEnding::Stopped => "stopped",
+        })
+    }
+}
 
 // The root runs, or it is down: how it ended, and the clock at its end.
 #[derive(Clone, Copy, Debug, PartialEq, Eq)]
 pub enum Root {
     Running,
-    Down(Ending, u32),
+    Down(RootEnding, u32),
 }
 
 #[derive(Clone, Copy, Debug, PartialEq, Eq)]

@@ -1,5 +1,5 @@
 // Plays any calls over a new group of any pace.
-ghost use Rattle.std.specs.Prelude.{◌≡◌, map};
+ghost use Rattle.std.specs.Prelude.{◌≡◌, ◌≤◌, length, map};
 ghost use Rattle.protocol.specs.Rehearsals.{call_of};
 ghost use Rattle.rehearsal.specs.Promise.{Promised};
 
@@ -30,6 +30,8 @@ pub fn rehearse<P: Pace>(
 ) -> Rehearsal<P>
     ensures pace { result.group.pace ≡ pace }
     ensures plan { result.group.plan ≡ plan }
+    ensures records { result.records ≡ result.group.table.logged }
+    ensures within { result.records ≤ length slots.new }
     ensures calls { map call_of steps.new ≡ map call_of steps.old }
     ensures promise { Promised (P.means pace) plan steps.new result.group.table result.records slots.old slots.new out.old out.new result.exported }
 {

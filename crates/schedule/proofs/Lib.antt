@@ -1,3 +1,4 @@
+mod Example
 mod Filing
 mod Fitting
 mod Lengths

@@ -7,3 +7,4 @@ pub mod Steps
 pub mod Composing
 pub mod Rendering
 pub mod Notices
+pub mod Example

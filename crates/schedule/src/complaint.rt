@@ -1,6 +1,6 @@
 // What can be wrong with a text.
 ghost use Rattle.std.specs.Prelude.{◌≡◌};
-ghost use Rattle.schedule.specs.Causes.{refused};
+ghost use Rattle.schedule.specs.Causes.{cause_number, refused};
 
 use slots::refusal::Refusal;
 
@@ -24,6 +24,20 @@ pub enum Cause {
     NoStart,
     // the order file is longer than the output
     NoRoom,
+}
+
+impl Cause {
+    // The number of the question that was answered no. Not a `From`, which would not say so.
+    pub fn number(self) -> u8
+        ensures { result ≡ cause_number self }
+    {
+        match self {
+            Cause::MissingWord | Cause::WordTooMany | Cause::NoStart => 15,
+            Cause::UnknownWord | Cause::NotANumber | Cause::NumberTooLarge => 16,
+            Cause::NoSlot | Cause::NoRoom => 12,
+            Cause::EarlierTick => 14,
+        }
+    }
 }
 
 // The first line that is not taken, counted from 1, and why.

@@ -2,6 +2,7 @@
 ghost use Rattle.std.specs.Prelude.{◌≡◌, ◌≤◌, ◌++◌, length, take, drop, IfOk};
 ghost use Rattle.schedule.specs.Texts.{reads};
 ghost use Rattle.schedule.specs.Composing.{composed, output, LoadsAs};
+ghost use Rattle.schedule.specs.Example.{TextsByHand};
 ghost use Rattle.schedule.specs.Rendering.{RenderedTextsRead};
 
 use crate::complaint::{Cause, Complaint};
@@ -19,6 +20,7 @@ pub fn compose(text: &[u8], order_slots: &mut [Order], out: &mut [u8]) -> Result
     ensures within { IfOk result (λ size. size ≤ length out.new) }
     ensures loads { IfOk result (λ size. LoadsAs (reads text.now order_slots.old) (take size out.new)) }
     ensures reads_back { RenderedTextsRead }
+    ensures by_hand { TextsByHand }
 {
     let mut lines = Lines::new(text);
     let mut list = SlotList::new(order_slots);

@@ -1,17 +1,29 @@
 // A complaint in words.
-ghost use Rattle.std.specs.Prelude.{◌≡◌};
+ghost use Rattle.std.specs.Prelude.{◌≡◌, ◌≤◌, length};
+ghost use Rattle.text.specs.Lines.{padded};
 ghost use Rattle.schedule.specs.Notices.{cause_words, notice_line};
 
 use crate::complaint::{Cause, Complaint};
 use text::Line;
+use text::line_bytes::LineBytes;
 
 // The line that tells a planner what is wrong, and where: its bytes with their length, as the lines of a played file are told.
-pub fn notice(complaint: Complaint) -> Line
+pub fn notice(complaint: Complaint) -> LineBytes
+    ensures bytes { result.bytes ≡ padded (notice_line complaint) }
+    ensures len { result.len ≡ length (notice_line complaint) }
+    ensures within { result.len ≤ 128 }
+{
+    notice_line(complaint).into_bytes()
+}
+
+fn notice_line(complaint: Complaint) -> Line
     ensures { result ≡ notice_line complaint }
 {
     let mut line = Line::new();
-    line.add(b"line ");
+    line.add(b"refused line ");
     line.number(complaint.line as u64);
+    line.add(b" number ");
+    line.number(complaint.cause.number() as u64);
     line.add(b": ");
     line.add(cause_words(complaint.cause));
     line.add(b"\n");

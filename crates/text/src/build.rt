@@ -5,6 +5,7 @@ ghost use Rattle.text.specs.Lines.{added, padded};
 
 use super::bytes::put;
 use super::decimal::digits;
+use super::line_bytes::LineBytes;
 use super::{Line, SIZE};
 
 impl Line {
@@ -25,13 +26,13 @@ impl Line {
     }
 
     // All of its bytes, those past the text 0, and the text's length.
-    pub fn into_bytes(self) -> ([u8; SIZE], usize)
-        ensures bytes { result.0 ≡ padded self }
-        ensures len { result.1 ≡ length self }
-        ensures within { result.1 ≤ 128 }
+    pub fn into_bytes(self) -> LineBytes
+        ensures bytes { result.bytes ≡ padded self }
+        ensures len { result.len ≡ length self }
+        ensures within { result.len ≤ 128 }
     {
         let Line { bytes, len } = self;
-        (bytes, len)
+        LineBytes { bytes, len }
     }
 
     // Adds a text where it fits, and changes nothing where it does not.

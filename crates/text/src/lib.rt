@@ -6,6 +6,7 @@ use std::marker::Model;
 mod build;
 pub mod bytes;
 pub mod decimal;
+pub mod line_bytes;
 
 // How many bytes a line has room for.
 pub const SIZE: usize = 128;

@@ -5,10 +5,9 @@ use crate::tell::{tell, tell_refusal};
 use group::Group;
 use orders::order::Order;
 use pace::Pace;
-use player::play::own_call;
+use player::play::{PlayFault, own_call, tick_to};
 use player::sizes::LOG_SLOTS;
 use protocol::happening::Happening;
-use protocol::refusal::Refusal;
 use slots::SlotList;
 use std::io;
 
@@ -18,13 +17,13 @@ fn tell_since<P: Pace>(
     group: &Group<P>,
     log: &SlotList<'_, Happening>,
     from: usize,
-    answer: Result<(), Refusal>,
-) -> io::Result<Result<(), Refusal>> {
+    answer: Result<(), PlayFault>,
+) -> io::Result<Result<(), PlayFault>> {
     let records = log.as_slice();
     for (place, happening) in records.iter().enumerate().skip(from) {
         tell(rt, group, records, place, *happening)?;
     }
-    if let Err(refusal) = answer {
+    if let Err(PlayFault::Refused(refusal)) = answer {
         tell_refusal(rt, group.clock(), refusal)?;
     }
     Ok(answer)
@@ -37,15 +36,15 @@ fn obey<P: Pace>(
     group: &mut Group<P>,
     log: &mut SlotList<'_, Happening>,
     order: &Order,
-) -> io::Result<Result<(), Refusal>> {
+) -> io::Result<Result<(), PlayFault>> {
     let from = log.len();
-    let ticked = group.advance(log, order.tick);
+    let ticked = tick_to(group, log, order.tick);
     let told = tell_since(rt, group, log, from, ticked)?;
     match own_call(*order) {
         Some(call) if told.is_ok() => {
             let from = log.len();
             let answer = group.perform(log, call);
-            tell_since(rt, group, log, from, answer)
+            tell_since(rt, group, log, from, answer.map_err(PlayFault::Refused))
         }
         _ => Ok(told),
     }

@@ -1,6 +1,6 @@
 // Making and reading a plan.
 ghost use Rattle.std.specs.Prelude.{◌≡◌, IfSome, is_some};
-ghost use Rattle.protocol.specs.Plans.{Planned};
+ghost use Rattle.protocol.specs.Plans.{Planned, bad_count_number};
 ghost use Rattle.protocol.specs.Runs.{is_party};
 
 use crate::kind::GroupKind;
@@ -14,7 +14,7 @@ pub struct BadPartyCount;
 impl BadPartyCount {
     // Not a `From`: a byte alone would not say that it is the number of a question.
     pub fn number(self) -> u8
-        ensures { result ≡ 5 }
+        ensures { result ≡ bad_count_number self }
     {
         5
     }

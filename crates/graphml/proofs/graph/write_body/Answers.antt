@@ -10,13 +10,13 @@ use Rattle.graphml.proofs.graph.write_body.Goals.{After-write_edges, else-loop-p
 pub returns-in_err-run : goal.returns-in_err-run
 returns-in_err-run c =
     let told = c.in_err-run.ensures in
-    let x = left_stop _ _ _ (left_as _ (one_party c.args.log.now c.loop-party.party c.args.parties (omega arith)) c.loop-party.invariant) told.whole told.after in
-    rw (err_from_is_err_and c.from_residual.result c.from_residual.ensures.1).1 (record { whole = x.0; after = x.1; sound = told.sound })
+    let x = left_stop _ _ _ (left_as _ (one_party c.args.log.now c.loop-party.party c.args.parties (omega arith)) c.loop-party.invariant) told.whole told.after told.numbers in
+    rw (err_from_is_err_and c.from_residual.result c.from_residual.ensures.1).1 (record { whole = x.0; after = x.1; sound = told.sound; numbers = x.2 })
 
 pub loop-party-preserved : goal.loop-party-preserved
 loop-party-preserved c =
     let told = c.in_ok-run.ensures in
-    left_more _ _ _ (left_as _ (one_party c.args.log.now c.loop-party.party c.args.parties (omega arith)) c.loop-party.invariant) told.whole told.after told.sound
+    left_more _ _ _ (left_as _ (one_party c.args.log.now c.loop-party.party c.args.parties (omega arith)) c.loop-party.invariant) told.whole told.after told.sound told.numbers
 
 -- every party is written, and only the edges are left
 only_edges : (c : After-write_edges) → Left (state c.loop-party-test.out) (edges_from 0 c.args.log.now) (state c.args.out.now) (parties_from c.args.log.now 0 (c.args.parties + 1)) 20
@@ -25,7 +25,7 @@ only_edges c =
       | else-loop-party-test w ↦ rw w.out-is (left_as _ (no_party c.args.log.now c.loop-party.party c.args.parties (omega arith)) c.loop-party.invariant)
       | then-loop-party-test+in_ok-run+else-party-party-end w ↦
           let told = w.in_ok-run.ensures in
-          let l = left_more _ _ _ (left_as _ (one_party c.args.log.now c.loop-party.party c.args.parties (omega arith)) c.loop-party.invariant) told.whole told.after told.sound in
+          let l = left_more _ _ _ (left_as _ (one_party c.args.log.now c.loop-party.party c.args.parties (omega arith)) c.loop-party.invariant) told.whole told.after told.sound told.numbers in
           rw w.out-is (left_as _ (no_party c.args.log.now (c.loop-party.party + 1) c.args.parties (omega arith)) l)
     ]
 

@@ -11,7 +11,7 @@ loop-place-preserved c =
       | then-is_arrived+in_ok-edge w ↦
           let told = w.in_ok-edge.ensures in
           let l = left_as _ (picked is_arrival arrival_edge c.loop-place.place c.args.log.now c.loop-place-test.true _ (sym w.if-is_arrived.ensures)) c.loop-place.invariant in
-          rw w.out-is (left_more _ _ _ l told.whole told.after told.sound)
+          rw w.out-is (left_more _ _ _ l told.whole told.after told.sound told.numbers)
       | else-is_arrived w ↦
           let l = left_as _ (passed is_arrival arrival_edge c.loop-place.place c.args.log.now c.loop-place-test.true _ (sym w.if-is_arrived.ensures)) c.loop-place.invariant in
           rw w.out-is l

@@ -5,9 +5,9 @@ use Rattle.graphml.specs.Texts.{happening_line}
 use Rattle.graphml.proofs.Words.{number_le, word_le}
 use Rattle.graphml.proofs.lines.happening_line.Goals as goal
 
-pub returns : goal.returns
+pub returns-clause-line : goal.returns-clause-line
 unfolding happening_line
-returns c =
+returns-clause-line c =
     let a = number_le c.args.place (omega arith) in
     let b = number_le c.args.h.now.tick (omega arith) in
     let w = word_le c.args.h.now.kind in

@@ -12,6 +12,8 @@ use Rattle.orders.specs.declared.start.Start.{Start}
 use Rattle.orders.specs.Loading.{loaded, started}
 use Rattle.orders.specs.Reading.{fault, start_at, after_order}
 use Rattle.orders.proofs.Loads.{Left, left_end, left_fault, left_refused, left_more, written_files}
+use Rattle.orders.proofs.Example.{examples_load}
+use Rattle.orders.proofs.OnlyWritten.{only_written}
 use Rattle.orders.proofs.load.load.Goals as goal
 
 -- what the reader read first
@@ -43,6 +45,8 @@ returns-in_err-start c =
       extends = extends_refl c.args.list.now;
       rises = λ h. h;
       reads_back = written_files;
+      only_written = only_written;
+      examples = examples_load;
     }
 
 pub loop-order-init : goal.loop-order-init
@@ -75,6 +79,8 @@ returns-in_err-order c =
       extends = l.invariant.1;
       rises = l.invariant.2;
       reads_back = written_files;
+      only_written = only_written;
+      examples = examples_load;
     }
 
 pub returns-in_default : goal.returns-in_default
@@ -90,6 +96,8 @@ returns-in_default c =
       extends = l.invariant.1;
       rises = l.invariant.2;
       reads_back = written_files;
+      only_written = only_written;
+      examples = examples_load;
     }
 
 pub returns-in_err-map_err : goal.returns-in_err-map_err
@@ -111,6 +119,8 @@ returns-in_err-map_err c =
       extends = extends_trans c.args.list.now l.list c.append.new.self l.invariant.1 h.extends;
       rises = λ r. h.rises (l.invariant.2 r);
       reads_back = written_files;
+      only_written = only_written;
+      examples = examples_load;
     }
 
 pub loop-order-preserved : goal.loop-order-preserved

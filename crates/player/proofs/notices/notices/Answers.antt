@@ -1,9 +1,5 @@
-use Rattle.std.proofs.Common.{sym, ap, ◌∙◌}
-use Rattle.player.specs.Notices.{notice_lines}
+use Rattle.player.proofs.Example.{by_hand}
 use Rattle.player.proofs.notices.notices.Goals as goal
 
-pub returns-in-Err : goal.returns-in-Err
-returns-in-Err c = c.refused_line.ensures ∙ ap notice_lines (sym c.in-Err.is)
-
-pub returns-in-Ok : goal.returns-in-Ok
-returns-in-Ok c = c.told.ensures ∙ ap notice_lines (sym c.in-Ok.is)
+pub returns-clause-by_hand : goal.returns-clause-by_hand
+returns-clause-by_hand c = by_hand

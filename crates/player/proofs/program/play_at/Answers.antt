@@ -44,7 +44,7 @@ came g c hs' r bytes lines back was prints =
     (played m sound group.plan (items c.args.orders.now) c.args.log_slots.now group.table x.group.table c.new-log.result x.log (stop_told c.play-played.result)
     (o.table ∙ ap (λ q. (opened q group.plan).table) (sym same)) c.new-log.ensures.empty c.new-log.ensures.spare q.after q.answer q.extends
     hs' c.args.out.now c.export.new.out x.group.plan c.export.result bytes lines
-    back p.plan e.answer e.bytes e.nested e.cut e.edges (subst (λ y. Prints y (stop_told c.play-played.result) bytes lines) (sym was) prints))
+    back p.plan e.answer e.bytes e.whole e.cut e.closes e.shown (subst (λ y. Prints y (stop_told c.play-played.result) bytes lines) (sym was) prints))
 
 pub returns-in_err-exported-clause-run : goal.returns-in_err-exported-clause-run
 returns-in_err-exported-clause-run g c =

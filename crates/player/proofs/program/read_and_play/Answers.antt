@@ -10,7 +10,7 @@ use Rattle.orders.specs.declared.order.Order.{Order}
 use Rattle.orders.specs.declared.start.Start.{Start}
 use Rattle.orders.specs.declared.start.PaceKind.TheVariants.{Halving, TwoPhase}
 use Rattle.player.specs.Told.{bytes_told, lines_told}
-use Rattle.player.specs.Program.{waits_of, Read, FileRun}
+use Rattle.player.specs.Program.{waits_of, Read, FileOutcome}
 use Rattle.player.proofs.Reading.{pace_is, limits_refused, limits_granted, file_run}
 use Rattle.player.proofs.program.read_and_play.Goals as goal
 use Rattle.player.proofs.program.read_and_play.Goals.{After-load}
@@ -18,7 +18,7 @@ use Rattle.player.proofs.program.read_and_play.Goals.{After-load}
 -- what came of it, once the orders were loaded
 came : (c : After-load) (os' : List Order) (r : Result Start ReadFault) (hs' : List Happening) (out' : List ℕ) (bytes : ℕ) (lines : List ℕ) → os' ≡ c.load.new.list.slots.now →
     c.load.result ≡ r → Read r (items c.load.new.list) c.args.log_slots.now hs' c.args.out.now out' bytes lines →
-    FileRun c.args.input.now c.args.order_slots.now os' c.args.log_slots.now hs' c.args.out.now out' bytes lines
+    FileOutcome c.args.input.now c.args.order_slots.now os' c.args.log_slots.now hs' c.args.out.now out' bytes lines
 came c os' r hs' out' bytes lines back was read =
     let n = c.new-orders.ensures in
     let h = c.load.ensures in

@@ -1,4 +1,4 @@
-use Rattle.protocol.proofs.Shown.{shows}
+use Rattle.protocol.proofs.Rehearsal.{shows}
 use Rattle.protocol.proofs.laws.runs_show_their_beats.Goals as goal
 
 pub returns : goal.returns

@@ -1,4 +1,4 @@
-use Rattle.std.proofs.Common.{◌≡◌, ℕ, List, length, get_or, take, drop, sym, refl, ap, ◌∙◌, subst, subst₂, arith, rules}
+use Rattle.std.proofs.Common.{◌≡◌, ℕ, ◌≤◌, List, length, get_or, take, drop, sym, refl, ap, ◌∙◌, subst, subst₂, arith, rules}
 use mathlib.Core.Path.{subst₃}
 use Rattle.std.proofs.lemmas.List.{take_more_set, take_all}
 use Rattle.slots.specs.Slots.{capacity}
@@ -61,10 +61,18 @@ returns g c =
     let promise : Promised m plan xs c.loop-step.group.table l'.len slots l'.slots.now c.args.out.now c.export-exported.new.out c.export-exported.result = record {
       run = run;
       later_slots_kept = inv.4.later ∙ ap (λ (ys : List Happening). drop l'.len ys) lent;
-      file = shows m plan (length slots) xs s _ _ _ c.loop-step.group.plan (inv.3 ∙ o.plan) run.arrivals_are_the_deliveries run.log_in_order
-          x.answer x.bytes x.nested x.cut x.edges;
+      file = shows plan s _ _ _ c.loop-step.group.plan (inv.3 ∙ o.plan) run.log_in_order x.answer x.bytes x.whole x.cut x.closes x.shown;
     } in
     let tie = inv.4.lent ∙ c.new-log.ensures.lent in
     let back : (k : ℕ) (ys : List Happening) → k ≡ l'.len → ys ≡ l'.slots.now → Promised m plan xs c.loop-step.group.table k slots ys c.args.out.now c.export-exported.new.out c.export-exported.result =
     λ k ys e f. subst₂ (λ (k : ℕ) (ys : List Happening). Promised m plan xs c.loop-step.group.table k slots ys c.args.out.now c.export-exported.new.out c.export-exported.result) (sym e) (sym f) promise in
-    record { pace = inv.2 ∙ o.pace; plan = inv.3 ∙ o.plan; calls = inv.0; promise = back _ _ n (search rules) }
+    let inside : (k : ℕ) (ys : List Happening) → k ≡ l'.len → ys ≡ l'.slots.now → k ≤ length ys =
+    λ k ys e f. omega (arith, e, ap length f, l'.within) in
+    record {
+      pace = inv.2 ∙ o.pace;
+      plan = inv.3 ∙ o.plan;
+      records = n ∙ sym (items_length l') ∙ sym run.log_in_order.counted;
+      within = inside _ _ n (search rules);
+      calls = inv.0;
+      promise = back _ _ n (search rules);
+    }

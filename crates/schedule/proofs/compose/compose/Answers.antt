@@ -5,6 +5,7 @@ use Rattle.schedule.specs.Cuts.{lines_in}
 use Rattle.schedule.specs.Texts.{reads}
 use Rattle.schedule.proofs.Rendered.{rendered_texts}
 use Rattle.schedule.proofs.Whole.{begun, went_on, slots_hold, complained, made, reads_sound}
+use Rattle.schedule.proofs.Example.{by_hand}
 use Rattle.schedule.proofs.compose.compose.Goals as goal
 
 pub returns-in_err-start : goal.returns-in_err-start
@@ -26,6 +27,7 @@ returns-in_err-start c =
       within = IfOk-from_err c.from_residual.result _ c.from_residual.ensures.0;
       loads = IfOk-from_err c.from_residual.result _ c.from_residual.ensures.0;
       reads_back = rendered_texts;
+      by_hand = by_hand;
     }
 
 pub returns-in_err-read_orders : goal.returns-in_err-read_orders
@@ -53,6 +55,7 @@ returns-in_err-read_orders c =
       within = IfOk-from_err fr.result _ fr.ensures.0;
       loads = IfOk-from_err fr.result _ fr.ensures.0;
       reads_back = rendered_texts;
+      by_hand = by_hand;
     }
 
 pub returns : goal.returns
@@ -79,4 +82,5 @@ returns c =
       within = d.within;
       loads = d.loads;
       reads_back = rendered_texts;
+      by_hand = by_hand;
     }

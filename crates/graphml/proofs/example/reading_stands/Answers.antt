@@ -1,0 +1,8 @@
+use Rattle.std.proofs.Common.{refl}
+use Rattle.graphml.specs.Closing.{tree}
+use Rattle.graphml.specs.Reading.{items_read, parties_read}
+use Rattle.graphml.proofs.example.reading_stands.Goals as goal
+
+pub returns : goal.returns
+unfolding tree items_read parties_read
+returns c = record { closing = refl; items = refl; parties = refl }

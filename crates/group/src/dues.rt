@@ -1,0 +1,8 @@
+// What is due next in a group: until then its ticks only count the clock. Pace, plan and table are three parameters, as in the rounds.
+mod next;
+mod patience;
+mod timer;
+
+pub(crate) use self::next::next_due;
+pub(crate) use self::patience::patience_of;
+pub(crate) use self::timer::Timer;

@@ -1,0 +1,104 @@
+-- What the log of a run tells of the root and of each party, read record by record.
+use Rattle.std.specs.Prelude.{◌≡◌, ℕ, ◌≤◌, cond, List, [], ◌∷◌, ◌==◌}
+use Rattle.pace.specs.Meaning.{Meaning, Lawful}
+use Rattle.protocol.specs.declared.party.Party.{Party}
+use Rattle.protocol.specs.declared.party.Own.{Own}
+use Rattle.protocol.specs.declared.party.Stage.TheVariants.{Joining as Joins, In, Leaving as Leaves}
+use Rattle.protocol.specs.declared.party.Ending.{Ending}
+use Rattle.protocol.specs.declared.party.Ending.TheVariants.{Crashed as ByCrash, Stopped as ByStop, Left as ByLeaving}
+use Rattle.protocol.specs.declared.party.Standing.{Standing}
+use Rattle.protocol.specs.declared.party.Standing.TheVariants.{Outside, Live, Ended}
+use Rattle.protocol.specs.declared.party.Roll.{Roll}
+use Rattle.protocol.specs.declared.party.Roll.TheVariants.{Off, On, Struck as IsStruck}
+use Rattle.protocol.specs.declared.table.Root.{Root}
+use Rattle.protocol.specs.declared.table.Root.TheVariants.{Running, Down}
+use Rattle.protocol.specs.declared.table.RootEnding.TheVariants.{Crashed as RootCrashed, Stopped as RootStopped}
+use Rattle.protocol.specs.declared.kind.GroupKind.{GroupKind}
+use Rattle.protocol.specs.declared.kind.GroupKind.TheVariants.{Closed, Expanding, Dynamic}
+use Rattle.protocol.specs.declared.happening.HappeningKind.{HappeningKind}
+use Rattle.protocol.specs.declared.happening.HappeningKind.TheVariants.{Sent, Arrived, Lost, Enrolled, Struck, Crashed, Stopped, Left, Joining, Leaving}
+use Rattle.protocol.specs.declared.happening.Happening.{Happening}
+use Rattle.protocol.specs.declared.plan.Plan.{Plan}
+use Rattle.protocol.specs.declared.call.Call.{Call}
+use Rattle.protocol.specs.Group.{Play, the}
+use Rattle.protocol.specs.Runs.{reached}
+
+-- what the records owned by i make of x, one after another
+abbrev pub read : {A : Type 0} → (A → Happening → A) → ℕ → A → List Happening → A
+read f i x [] = x
+read f i x (h ∷ log) = read f i (cond (h.owner == i) (f x h) x) log
+
+-- where a party stands, when it last heard, and whether it is on the roll
+pub record Account : Type 0 where
+  pub own : Own
+  pub roll : Roll
+
+abbrev pub account : Standing → ℕ → Roll → Account
+account standing since roll = record { own = record { standing = standing; since = since }; roll = roll }
+
+abbrev pub account_of : Party → Account
+account_of p = record { own = p.own; roll = p.note.roll }
+
+-- of a new group
+abbrev pub first_account : GroupKind → Account
+first_account Closed = account (Live In) 0 On
+first_account Expanding = account Outside 0 Off
+first_account Dynamic = account Outside 0 Off
+
+-- the root's beat arrives at tick t: a live party has heard, and a joining one is in
+abbrev pub heard_at : ℕ → Standing → Account → Account
+heard_at t Outside a = a
+heard_at t (Live Joins) a = account (Live In) t a.roll
+heard_at t (Live In) a = account (Live In) t a.roll
+heard_at t (Live Leaves) a = account (Live Leaves) t a.roll
+heard_at t (Ended how e g) a = a
+
+-- a live party ends at tick t
+abbrev pub ended_at : Ending → ℕ → Standing → Account → Account
+ended_at how t Outside a = a
+ended_at how t (Live g) a = account (Ended how t g) a.own.since a.roll
+ended_at how t (Ended how' e g) a = a
+
+-- what a record of a party makes of its account
+abbrev pub tells_as : HappeningKind → ℕ → Account → Account
+tells_as Sent t a = a
+tells_as Arrived t a = heard_at t a.own.standing a
+tells_as Lost t a = a
+tells_as Enrolled t a = record { own = a.own; roll = On }
+tells_as Struck t a = record { own = a.own; roll = IsStruck }
+tells_as Crashed t a = ended_at ByCrash t a.own.standing a
+tells_as Stopped t a = ended_at ByStop t a.own.standing a
+tells_as Left t a = ended_at ByLeaving t a.own.standing a
+tells_as Joining t a = account (Live Joins) t a.roll
+tells_as Leaving t a = account (Live Leaves) a.own.since a.roll
+
+-- what the log tells of party i
+abbrev pub told_of : GroupKind → ℕ → List Happening → Account
+told_of kind i log = read (λ a h. tells_as h.kind h.tick a) i (first_account kind) log
+
+-- what a record of the root makes of it
+abbrev pub root_as : HappeningKind → ℕ → Root → Root
+root_as Sent t r = r
+root_as Arrived t r = r
+root_as Lost t r = r
+root_as Enrolled t r = r
+root_as Struck t r = r
+root_as Crashed t r = Down RootCrashed t
+root_as Stopped t r = Down RootStopped t
+root_as Left t r = r
+root_as Joining t r = r
+root_as Leaving t r = r
+
+-- what the log tells of the root, which is party 0
+abbrev pub root_told : List Happening → Root
+root_told log = read (λ r h. root_as h.kind h.tick r) 0 Running log
+
+-- the log tells of each party where it stands, when it last heard and whether it is on the roll, and how the root is
+pub record TellsTheGroup (plan : Plan) (s : Play) : Type 0 where
+  pub party : (i : ℕ) → 1 ≤ i → i ≤ plan.n → told_of plan.kind i s.log ≡ account_of (the i s.table)
+  pub root : root_told s.log ≡ s.table.root
+
+-- the log of every run tells its group
+abbrev pub RunsTellTheirGroup : Type 0
+RunsTellTheirGroup =
+    (m : Meaning) → Lawful m → (plan : Plan) (room : ℕ) (calls : List Call) → TellsTheGroup plan (reached m plan room calls)

@@ -1,0 +1,21 @@
+// A finished line, as it is handed out.
+ghost use Rattle.std.specs.Prelude.{◌≡◌, ◌≤◌, take};
+
+use super::SIZE;
+
+// The first `len` bytes are the line's text. `Line::into_bytes` makes the others 0.
+#[derive(Clone, Copy, Debug, PartialEq, Eq)]
+pub struct LineBytes {
+    pub bytes: [u8; SIZE],
+    pub len: usize,
+    ghost within: { len ≤ 128 },
+}
+
+impl LineBytes {
+    // The text alone.
+    pub fn as_slice(&self) -> &[u8]
+        ensures { result.now ≡ take self.now.len self.now.bytes }
+    {
+        &self.bytes[..self.len]
+    }
+}
