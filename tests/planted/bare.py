@@ -6,6 +6,8 @@ import re
 
 # the crates whose definitions the worked examples read, and the crate of the examples
 CRATES = ["pace", "slots", "protocol", "text", "graphml", "orders", "player", "handplayed"]
+# files of specs/ with lemmas that ghost members cite
+LEMMAS = ["Fronts", "Halves", "Falling", "Allowed", "Phases"]
 STRING = re.compile(r'b?"(?:[^"\\]|\\.)*"')
 CODE = re.compile(r"(?:pub(?:\([a-z]+\))? )?(?:const )?fn |impl\b(?!.*\bModel\b)|#\[cfg\(test\)\]")
 
@@ -53,7 +55,7 @@ def bare(text):
         if not use:
             types = types or not re.match(r"(?:pub )?mod ", code)
             kept.append(item)
-        elif use[1] in CRATES + ["std", "crate", "self", "super"]:
+        elif use[1] in CRATES + ["std", "crate", "self", "super"] and not any(f".{lemmas}." in code for lemmas in LEMMAS):
             kept.append(item if code.startswith("ghost ") else only_types(item))
     left = "".join(item for item in kept if types or not re.match(r"(?:ghost )?use ", first_code(item)))
     return re.sub(r"(?m)^ *#\[(?:derive\(.*\)|default)\]\n", "", left)
@@ -76,16 +78,22 @@ def place(work, file):
 
 
 def put(work, file, text):
-    crate = file.split("/")[0]
+    crate, path = file.split("/")[0], pathlib.Path(file)
     to = place(work, file)
     to.parent.mkdir(parents=True, exist_ok=True)
-    to.write_text(in_one(bare(text) if file.endswith(".rt") and crate != "handplayed" else text, crate))
+    if path.suffix == ".antt":
+        text = re.sub(rf"(?m)^pub mod (?:{'|'.join(LEMMAS)})\n", "", text)
+    elif crate != "handplayed":
+        text = bare(text)
+    to.write_text(in_one(text, crate))
 
 
 def make(crates, work):
     """One crate, of which each crate is a module, with the table's fact."""
     for crate in CRATES:
         for path in [*(crates / crate / "specs").rglob("*.antt"), *(crates / crate / "src").rglob("*.rt")]:
+            if path.stem in LEMMAS:
+                continue
             if crate != "handplayed" or path.suffix == ".antt" or path.name in ("lib.rt", "worked.rt"):
                 put(work, str(path.relative_to(crates)), re.sub(r"#\[cfg\(test\)\]\nmod \w+;\n", "", path.read_text()))
     modules = "".join(f"pub mod {crate};\n" for crate in CRATES)

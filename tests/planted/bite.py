@@ -3,8 +3,8 @@
 
     python3 tests/planted/bite.py
 
-protocol-definitions.bugs has the same changes as edits of the definitions, and RESULTS.md the laws whose proofs then fail. A proof that fails doesn't
-tell that its law is wrong; a run does. The table goes to BROKEN.md: the promise that a run breaks, and how many drawn runs it took to find one.
+protocol-definitions.bugs and both.list have the same changes as edits of the definitions, and RESULTS.md the laws whose proofs then fail. A proof that
+fails doesn't tell that its law is wrong; a run does. The table goes to BROKEN.md: the promise that a run breaks, and how many drawn runs it took to find one.
 """
 
 import pathlib
@@ -73,6 +73,120 @@ class StopsOneRoundLate(RULES):
         self.waits = list(waits) + [waits[-1]]
 
 
+class ArrivalOwnedByItsSender(RULES):
+    def note(self, owner, word, link=None):
+        return super().note(self.log[link].owner if word == "arrived" else owner, word, link)
+
+
+class LossOwnedByItsReceiver(RULES):
+    def lose(self, i, leg):
+        super().lose(i, leg)
+        self.log[-1].owner = i if leg == 1 else 0
+
+
+class HeardOneTickLate(RULES):
+    def hear(self, i, beat):
+        super().hear(i, beat)
+        if self.parties[i].state in model.LIVE:
+            self.parties[i].last_heard += 1
+
+
+class NeverNotesThatItHeard(RULES):
+    def hear(self, i, beat):
+        was = self.parties[i].last_heard
+        super().hear(i, beat)
+        self.parties[i].last_heard = was
+
+
+class PatienceOfTwiceTmax(RULES):
+    def __init__(self, kind, n, tmin, tmax, *words):
+        super().__init__(kind, n, tmin, tmax, *words)
+        self.patience = 2 * tmax + (0 if kind == model.CLOSED else tmin)
+
+
+class EndsOnlyPastItsPatience(RULES):
+    def run_timer(self, i):
+        self.patience += 1
+        super().run_timer(i)
+        self.patience -= 1
+
+
+class EnrolledByAnEndedRoot(RULES):
+    def root_hears(self, i, beat):
+        was, self.root = self.root, "running"
+        super().root_hears(i, beat)
+        self.root = was
+
+
+class OtherRounds(RULES):
+    """A round's end, with the misses and the length left to the rule that is changed."""
+
+    stops_at = 0
+
+    def missed(self, party):
+        return 0 if party.heard else party.misses + 1
+
+    def length(self, waits):
+        return min(waits, default=self.tmax)
+
+    def end_round(self):
+        for i in self.on_roll():
+            self.parties[i].misses = self.missed(self.parties[i])
+        if any(self.parties[i].misses >= len(self.waits) + self.stops_at for i in self.on_roll()):
+            self.end_root("stopped")
+            return
+        self.round_start = self.clock
+        self.round_length = self.length([self.waits[self.parties[i].misses] for i in self.on_roll()])
+        for i in self.on_roll():
+            self.send(i, 1, self.clock + self.tmin)
+            self.parties[i].heard = False
+
+
+class LongestWait(OtherRounds):
+    def length(self, waits):
+        return max(waits, default=self.tmax)
+
+
+class HalfTheRoundBefore(OtherRounds):
+    def length(self, waits):
+        return max(1, self.round_length // 2) if any(wait < self.tmax for wait in waits) else self.tmax
+
+
+class StopsOneMissEarly(OtherRounds):
+    stops_at = -1
+
+
+class MissesNotReset(OtherRounds):
+    def missed(self, party):
+        return party.misses + (not party.heard)
+
+
+class JoiningBeatLastsOneTickMore(RULES):
+    def send(self, i, leg, last_tick, parting=False):
+        super().send(i, leg, last_tick + (leg == 3), parting)
+
+
+class CallsEverySecondTmin(RULES):
+    def run_timer(self, i):
+        self.tmin *= 2
+        super().run_timer(i)
+        self.tmin //= 2
+        if self.parties[i].legs[3]:
+            self.parties[i].legs[3].last_tick = min(self.parties[i].legs[3].last_tick, self.clock + self.tmin)
+
+
+class TimersBeforeTheRoot(RULES):
+    def tick(self):
+        model.ask(self.clock < model.LAST_CLOCK, 10)
+        model.ask(all(beat is None or beat.last_tick != self.clock for party in self.parties.values() for beat in party.legs.values()), 11)
+        self.ask_slots(2 * self.n)
+        for i in self.parties:
+            self.run_timer(i)
+        if self.root == "running" and self.clock == self.round_start + self.round_length:
+            self.end_round()
+        self.clock += 1
+
+
 CHANGES = [
     ("patience is one tick short", PatienceOneTickShort),
     ("D has no tmin where parties may join", NoTminInD),
@@ -82,13 +196,30 @@ CHANGES = [
     ("an arrival is linked to its own place", ArrivalLinkedToItself),
     ("question 11 is dropped", NoQuestion11),
     ("the root stops one round late", StopsOneRoundLate),
+    ("an arrival is owned by its sender", ArrivalOwnedByItsSender),
+    ("a loss is owned by its receiver", LossOwnedByItsReceiver),
+    ("a party is heard one tick late", HeardOneTickLate),
+    ("a party that hears does not note when", NeverNotesThatItHeard),
+    ("patience is twice tmax", PatienceOfTwiceTmax),
+    ("a party ends only past its patience", EndsOnlyPastItsPatience),
+    ("a root that has ended enrols", EnrolledByAnEndedRoot),
+    ("a round lasts the longest wait", LongestWait),
+    ("a round with a miss is half the one before", HalfTheRoundBefore),
+    ("the root stops at one miss fewer", StopsOneMissEarly),
+    ("misses are not reset when heard", MissesNotReset),
+    ("a joining beat's last tick is one later", JoiningBeatLastsOneTickMore),
+    ("joining beats go out every second tmin", CallsEverySecondTmin),
+    ("timers run before the root", TimersBeforeTheRoot),
 ]
 
 
 def check_links(group):
     for place, happening in enumerate(group.log):
         if happening.word in ("arrived", "lost"):
-            assert happening.link < place and group.log[happening.link].word == "sent", f"what {happening.word} is linked to no sending"
+            sending = group.log[happening.link]
+            assert happening.link < place and sending.word == "sent", f"what {happening.word} is linked to no sending"
+            is_own = happening.owner == sending.owner
+            assert is_own if happening.word == "lost" else (happening.owner == 0) != (sending.owner == 0), f"what {happening.word} is owned by the other end"
 
 
 def check(group):

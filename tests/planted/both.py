@@ -26,6 +26,7 @@ RESULTS = HERE / "BOTH.md"
 TABLE = "handplayed/specs/Table.antt"
 PROOF = "handplayed/proofs/worked/worked_examples_stand/Answers.antt"
 EXAMPLE = re.compile(r"\bexample \(")
+GIVEN = re.compile(r"\bexample \((.*?)\)(?: record| \((?:number|refused|record)|$)")
 
 
 def lines_broken(text):
@@ -58,7 +59,7 @@ def examples(table):
             if line.strip().startswith("--"):
                 comment = f"{comment} {line.strip()[3:]}".strip()
             elif EXAMPLE.search(line):
-                rows.append(comment or line.strip().lstrip("∷ "))
+                rows.append(comment or f"`{re.search(GIVEN, line)[1]}`")
                 comment = ""
         lists[name[1]] = rows
     return lists

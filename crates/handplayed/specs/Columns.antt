@@ -8,6 +8,7 @@ use Rattle.slots.specs.Slots.{append_answer, first_place}
 use Rattle.protocol.specs.declared.call.Call.{Call}
 use Rattle.protocol.specs.declared.happening.Happening.{Happening}
 use Rattle.protocol.specs.declared.kind.GroupKind.{GroupKind}
+use Rattle.protocol.specs.declared.party.Roll.{Roll}
 use Rattle.protocol.specs.declared.party.Standing.{Standing}
 use Rattle.protocol.specs.declared.plan.Plan.{Plan}
 use Rattle.protocol.specs.declared.table.Root.{Root}
@@ -72,10 +73,11 @@ pub record Outcome : Type 0 where
   -- the number of each answer, 0 for a yes, and the place of what was refused
   pub answers : List ℕ
   pub place : ℕ
-  -- the clock, how the root and the parties stand, the tick of each sending, how many records there are
+  -- the clock, how the root and the parties stand, what the root notes of each, the tick of each sending, how many records there are
   pub clock : ℕ
   pub root : Root
   pub parties : List Standing
+  pub rolls : List Roll
   pub sendings : List ℕ
   pub records : ℕ
   -- what an export answers, and what an output then holds
@@ -98,6 +100,7 @@ nothing = record {
   clock = 0;
   root = Running;
   parties = [];
+  rolls = [];
   sendings = [];
   records = 0;
   answer = None;
@@ -125,6 +128,7 @@ of_run o n answers s = record o {
   clock = s.table.clock;
   root = s.table.root;
   parties = map (λ p. p.own.standing) (take n s.table.parties);
+  rolls = map (λ p. p.note.roll) (take n s.table.parties);
   sendings = sent_at s.log;
   records = length s.log;
 }

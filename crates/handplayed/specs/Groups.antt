@@ -10,8 +10,8 @@ use Rattle.protocol.specs.declared.happening.HappeningKind.TheVariants.{Sent}
 use Rattle.protocol.specs.declared.kind.GroupKind.{GroupKind}
 use Rattle.protocol.specs.declared.kind.GroupKind.TheVariants.{Closed, Expanding, Dynamic}
 use Rattle.protocol.specs.declared.party.Party.{Party}
-use Rattle.protocol.specs.declared.party.Roll.TheVariants.{On, Struck}
-use Rattle.protocol.specs.declared.party.Stage.TheVariants.{In, Leaving}
+use Rattle.protocol.specs.declared.party.Roll.TheVariants.{On}
+use Rattle.protocol.specs.declared.party.Stage.TheVariants.{In}
 use Rattle.protocol.specs.declared.party.Standing.TheVariants.{Live}
 use Rattle.protocol.specs.declared.plan.Plan.{Plan}
 use Rattle.protocol.specs.declared.table.Root.{Root}
@@ -52,22 +52,16 @@ root_crashed at = Down Crashed at
 abbrev pub new : Meaning → Plan → Setting
 new m plan = record { pace = m; plan = plan; slots = 100; before = opened m plan }
 
--- a group whose root runs at a clock in a round that began 2 ticks before, and whose parties are each alike
-abbrev pub standing : (slots clock : ℕ) → Party → Setting
-standing slots clock p = record {
-  pace = halves 2 4;
-  plan = one Dynamic;
-  slots = slots;
-  before = record { table = record { clock = clock; root = Running; start = clock - 2; length = 4; logged = 0; parties = replicate 32 p }; log = [] };
-}
-
--- a joining beat is under way from a party that the root has struck
-abbrev pub struck : Setting
-struck = standing 100 9 (party (noted Struck false 0) (owning (Live Leaving) 9) (legs_of None None (Some (beat 10 false 0))))
-
 -- a beat whose last tick is the clock is under way to a party that is in
 abbrev pub with_beat : (slots clock : ℕ) → Setting
-with_beat slots clock = standing slots clock (party (noted On false 0) (owning (Live In) clock) (legs_of (Some (beat clock false 0)) None None))
+with_beat slots clock =
+    let p : Party = party (noted On false 0) (owning (Live In) clock) (legs_of (Some (beat clock false 0)) None None) in
+    record {
+      pace = halves 2 4;
+      plan = one Dynamic;
+      slots = slots;
+      before = record { table = record { clock = clock; root = Running; start = clock - 2; length = 4; logged = 0; parties = replicate 32 p }; log = [] };
+    }
 
 -- the same group, beside a log whose records it has counted or not
 abbrev pub beside : List Happening → (counted : ℕ) → Setting → Setting
@@ -116,12 +110,22 @@ leaves =
     ++ (Deliver 1 1 ∷ Tick ∷ Deliver 1 2 ∷ Tick ∷ Leave 1 ∷ Deliver 1 3 ∷ ticks 3)
     ++ (Deliver 1 1 ∷ Deliver 1 2 ∷ ticks 13)
 
+-- the party joins at 1 and calls again at 3; it hears at 4, leaves, and parts at 5, where its joining beat of 3 arrives after the parting one
+abbrev pub late_call : List Call
+late_call =
+    Tick ∷ Join 1 ∷ Deliver 1 3 ∷ ticks 3 ++ (Deliver 1 1 ∷ Deliver 1 2 ∷ Leave 1 ∷ Tick ∷ Deliver 1 1 ∷ Deliver 1 2 ∷ Deliver 1 3 ∷ ticks 7)
+
 -- in the first round with beats party 1 misses one, in the second party 2, and then both miss all
 abbrev pub miss_in_turn : List Call
 miss_in_turn =
     let both_miss : List Call = Lose 1 1 ∷ Lose 2 1 ∷ [] in
     ticks 11 ++ (Lose 1 1 ∷ Deliver 2 1 ∷ Deliver 2 2 ∷ ticks 10)
     ++ (Deliver 1 1 ∷ Deliver 1 2 ∷ Lose 2 1 ∷ ticks 5) ++ (both_miss ++ ticks 5) ++ (both_miss ++ ticks 2) ++ (both_miss ++ ticks 17)
+
+-- the party misses the beat of 10, hears that of 20, and misses those of 25 and 35
+abbrev pub heard_again : List Call
+heard_again =
+    ticks 11 ++ (Lose 1 1 ∷ ticks 10) ++ (Deliver 1 1 ∷ Deliver 1 2 ∷ ticks 5) ++ (Lose 1 1 ∷ ticks 10) ++ (Lose 1 1 ∷ ticks 5)
 
 -- what is asked for of a closed group of one party
 abbrev pub wrong_calls : List Call

@@ -5,6 +5,7 @@ use Rattle.protocol.specs.declared.call.Call.{Call}
 use Rattle.protocol.specs.declared.call.Call.TheVariants.{Tick, Deliver, Lose, Crash, Join, Leave}
 use Rattle.protocol.specs.declared.kind.GroupKind.TheVariants.{Closed, Expanding, Dynamic}
 use Rattle.protocol.specs.declared.party.Ending.TheVariants.{Crashed, Stopped, Left}
+use Rattle.protocol.specs.declared.party.Roll.TheVariants.{Off, On, Struck}
 use Rattle.protocol.specs.declared.party.Stage.TheVariants.{Joining, In, Leaving}
 use Rattle.protocol.specs.declared.party.Standing.TheVariants.{Live, Ended}
 use Rattle.protocol.specs.declared.refusal.Refusal.TheVariants.{BeatDue}
@@ -16,7 +17,7 @@ use Rattle.orders.specs.declared.start.PaceKind.TheVariants.{Halving, TwoPhase}
 use Rattle.orders.specs.declared.start.Start.{Start}
 use Rattle.player.specs.declared.play.PlayFault.TheVariants.{Refused}
 use Rattle.handplayed.specs.Columns.{Given, Outcome, nothing, outcome, limits, waits, cap, parties, pace, calls, export, orders, reading, writing, notice, append, find}
-use Rattle.handplayed.specs.Groups.{halves, two_phases, lists, one, two, root_stopped, root_crashed, new, struck, with_beat, beside, record_at, ticks, party_crashes, root_crashes, tick_waits, joining_lost, joiner_hears, leaves, miss_in_turn, wrong_calls}
+use Rattle.handplayed.specs.Groups.{halves, two_phases, lists, one, two, root_stopped, root_crashed, new, with_beat, beside, record_at, party_crashes, root_crashes, tick_waits, joining_lost, joiner_hears, leaves, late_call, miss_in_turn, heard_again, wrong_calls}
 use Rattle.handplayed.specs.Texts.{text, empty_file, empty_file_cut, waiting_file, waiting_file_cut, leaving_file}
 
 -- what is given, and what should come of it
@@ -88,6 +89,7 @@ runs =
       clock = 29;
       root = root_stopped 28;
       parties = Ended Crashed 0 In ∷ [];
+      rolls = On ∷ [];
       sendings = 10 ∷ 20 ∷ 25 ∷ 27 ∷ [];
       records = 10;
     }
@@ -101,6 +103,7 @@ runs =
       clock = 29;
       root = root_crashed 0;
       parties = Ended Stopped 28 In ∷ [];
+      rolls = On ∷ [];
       records = 2;
     }
     -- a beat is sent at 1; the tick at 2 is refused by 11 until beat and reply have come, and nobody stops
@@ -113,6 +116,7 @@ runs =
       clock = 3;
       root = Running;
       parties = Live In ∷ [];
+      rolls = On ∷ [];
       sendings = 1 ∷ 2 ∷ 2 ∷ [];
       records = 5;
     }
@@ -126,6 +130,7 @@ runs =
       clock = 13;
       root = Running;
       parties = Ended Stopped 12 Joining ∷ [];
+      rolls = Off ∷ [];
       sendings = 0 ∷ 2 ∷ 4 ∷ 6 ∷ 8 ∷ 10 ∷ [];
       records = 14;
     }
@@ -139,6 +144,7 @@ runs =
       clock = 18;
       root = root_crashed 5;
       parties = Ended Stopped 17 In ∷ [];
+      rolls = On ∷ [];
       sendings = 0 ∷ 2 ∷ 4 ∷ 4 ∷ 5 ∷ [];
       records = 14;
     }
@@ -151,6 +157,7 @@ runs =
       answers = granted (Join 1 ∷ Crash 0 ∷ Deliver 1 3 ∷ []);
       root = root_crashed 0;
       parties = Live Joining ∷ [];
+      rolls = Off ∷ [];
       sendings = 0 ∷ [];
       records = 4;
     }
@@ -164,6 +171,7 @@ runs =
       clock = 22;
       root = Running;
       parties = Ended Left 21 Leaving ∷ [];
+      rolls = Struck ∷ [];
       sendings = 0 ∷ 2 ∷ 4 ∷ 4 ∷ 6 ∷ 8 ∷ 9 ∷ [];
       records = 19;
     }
@@ -178,20 +186,37 @@ runs =
       clock = 50;
       root = root_stopped 33;
       parties = Ended Stopped 49 In ∷ Ended Stopped 39 In ∷ [];
+      rolls = On ∷ On ∷ [];
       sendings = 10 ∷ 10 ∷ 11 ∷ 20 ∷ 20 ∷ 21 ∷ 25 ∷ 25 ∷ 30 ∷ 30 ∷ 32 ∷ 32 ∷ [];
       records = 27;
     }
-    -- the late joining beat of a struck party arrives, and at 12 nothing is sent to it
-    ∷ example (calls struck (Deliver 1 3 ∷ ticks 4))
+    -- the party misses the beat of 10 and hears that of 20: its misses are 1, 0 and 1 again, and the rounds last 5, 10 and 5
+    ∷ example (calls (new (halves 1 10) (one Closed)) heard_again)
     record nothing {
-      waits = 4 ∷ 2 ∷ [];
-      total = 6;
-      patience = 12;
-      answers = granted (Deliver 1 3 ∷ ticks 4);
-      clock = 13;
+      waits = 10 ∷ 5 ∷ 2 ∷ 1 ∷ [];
+      total = 18;
+      patience = 28;
+      answers = granted heard_again;
+      clock = 41;
       root = Running;
-      parties = Live Leaving ∷ [];
-      records = 1;
+      parties = Live In ∷ [];
+      rolls = On ∷ [];
+      sendings = 10 ∷ 20 ∷ 21 ∷ 25 ∷ 35 ∷ 40 ∷ [];
+      records = 11;
+    }
+    -- struck at 5, where a late joining beat enrols it no more: nothing is sent at 6
+    ∷ example (calls (new (halves 2 2) (one Dynamic)) late_call)
+    record nothing {
+      waits = 2 ∷ [];
+      total = 2;
+      patience = 6;
+      answers = granted late_call;
+      clock = 12;
+      root = Running;
+      parties = Ended Left 11 Leaving ∷ [];
+      rolls = Struck ∷ [];
+      sendings = 1 ∷ 2 ∷ 3 ∷ 4 ∷ 4 ∷ 5 ∷ [];
+      records = 17;
     }
     ∷ []
 
@@ -207,6 +232,7 @@ questions =
       answers = 6 ∷ 6 ∷ 6 ∷ 6 ∷ 6 ∷ 6 ∷ 7 ∷ 7 ∷ 9 ∷ 9 ∷ 9 ∷ 0 ∷ 8 ∷ 0 ∷ 8 ∷ [];
       root = root_crashed 0;
       parties = Ended Crashed 0 In ∷ [];
+      rolls = On ∷ [];
       records = 2;
     }
     -- 7 and 8 of parties that may join and leave
@@ -217,6 +243,7 @@ questions =
       patience = 12;
       answers = 8 ∷ 8 ∷ 0 ∷ 8 ∷ 8 ∷ [];
       parties = Live Joining ∷ [];
+      rolls = Off ∷ [];
       sendings = 0 ∷ [];
       records = 2;
     }
@@ -227,6 +254,7 @@ questions =
       patience = 12;
       answers = 7 ∷ 0 ∷ 7 ∷ [];
       parties = Live Joining ∷ [];
+      rolls = Off ∷ [];
       sendings = 0 ∷ [];
       records = 2;
     }
@@ -239,6 +267,7 @@ questions =
       answers = 11 ∷ 6 ∷ 9 ∷ 8 ∷ replicate 5 12;
       clock = 9;
       parties = Live In ∷ [];
+      rolls = On ∷ [];
     }
     -- 6, 8, 9 and 11 before 13: the group did not write this record
     ∷ example (calls (beside (record_at 5) 0 (with_beat 3 9)) (Tick ∷ Deliver 2 1 ∷ Deliver 1 2 ∷ Join 1 ∷ Deliver 1 1 ∷ Lose 1 1 ∷ Crash 1 ∷ Crash 0 ∷ Leave 1 ∷ []))
@@ -249,6 +278,7 @@ questions =
       answers = 11 ∷ 6 ∷ 9 ∷ 8 ∷ replicate 5 13;
       clock = 9;
       parties = Live In ∷ [];
+      rolls = On ∷ [];
       sendings = 5 ∷ [];
       records = 1;
     }
@@ -261,6 +291,7 @@ questions =
       answers = 12 ∷ [];
       clock = 9;
       parties = Live In ∷ [];
+      rolls = On ∷ [];
       sendings = 5 ∷ [];
       records = 1;
     }
@@ -273,6 +304,7 @@ questions =
       answers = 13 ∷ [];
       clock = 9;
       parties = Live In ∷ [];
+      rolls = On ∷ [];
       sendings = 10 ∷ [];
       records = 1;
     }
@@ -285,6 +317,7 @@ questions =
       answers = 10 ∷ 0 ∷ 10 ∷ [];
       clock = 4000000000;
       parties = Live In ∷ [];
+      rolls = On ∷ [];
       records = 1;
     }
     ∷ []
@@ -347,6 +380,7 @@ playings =
       place = 1;
       clock = 11;
       parties = Live In ∷ [];
+      rolls = On ∷ [];
       sendings = 10 ∷ 11 ∷ [];
       records = 3;
     }
@@ -359,6 +393,7 @@ playings =
       clock = 29;
       root = root_crashed 0;
       parties = Ended Stopped 28 In ∷ [];
+      rolls = On ∷ [];
       records = 2;
     }
     ∷ []
