@@ -184,7 +184,7 @@ def compose_checks(drawn):
 
 def check_too_long():
     done = run_whole("compose", START + b" " * (1_048_577 - len(START)))
-    wanted = b"the text has more than 1,048,576 bytes\n"
+    wanted = b"refused number 12: the text has more than 1,048,576 bytes\n"
     if (done.returncode, done.stdout, done.stderr) != (1, b"", wanted):
         return f"exit status {done.returncode}, it tells {done.stderr!r}"
     return check_compose(START + b" " * (1_048_576 - len(START)), schedules.compose(START.decode()))
