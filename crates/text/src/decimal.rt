@@ -3,12 +3,12 @@ ghost use Rattle.std.specs.Prelude.{◌≡◌, ◌<◌, length, drop, decimal};
 ghost use Rattle.text.specs.Numeral.{Writes};
 
 // How many digits a 64-bit number has at most.
-pub const DIGITS: usize = 20;
+const DIGITS: usize = 20;
 
 // The digits stand at the end of the bytes, from place `first` on. Allocating nothing, it has a table of its own; being `Copy`, it is seen
 // with its fields, and not by a model that forgets where the digits begin.
 #[derive(Clone, Copy, Debug, PartialEq, Eq)]
-pub struct Numeral {
+pub(crate) struct Numeral {
     bytes: [u8; DIGITS],
     first: usize,
     ghost within: { first < 20 },
@@ -16,7 +16,7 @@ pub struct Numeral {
 }
 
 impl Numeral {
-    pub fn as_slice(&self) -> &[u8]
+    pub(crate) fn as_slice(&self) -> &[u8]
         ensures { result.now ≡ drop self.now.first self.now.bytes }
     {
         &self.bytes[self.first..]
@@ -24,7 +24,7 @@ impl Numeral {
 }
 
 // The digits of `n`, built from the back; 0 is one digit.
-pub fn digits(n: u64) -> Numeral
+pub(crate) fn digits(n: u64) -> Numeral
     ensures text { drop result.first result.bytes ≡ decimal n }
     ensures writes { Writes n (drop result.first result.bytes) }
 {

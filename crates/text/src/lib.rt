@@ -5,11 +5,11 @@ use std::marker::Model;
 
 mod build;
 pub mod bytes;
-pub mod decimal;
+mod decimal;
 pub mod line_bytes;
 
 // How many bytes a line has room for.
-pub const SIZE: usize = 128;
+pub(crate) const SIZE: usize = 128;
 
 // The first `len` bytes hold the line so far; the others are 0. Lent nothing and allocating nothing, it can't be a String.
 #[derive(Drop)]
