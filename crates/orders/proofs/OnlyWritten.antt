@@ -1,16 +1,14 @@
 -- Only what is written so loads.
-use Rattle.std.proofs.Common.{◌≡◌, ℕ, zero, suc, ◌+◌, ◌*◌, ◌/◌, ◌%◌, ◌<◌, ◌≤◌, Bool, true, false, cond, eqb, leb, ◌&&◌, List, [], ◌∷◌, ◌++◌, length, get_or, drop, Some, None, Ok, Err, Option, Result, sym, refl, ap, ◌∙◌, append_assoc, arith}
+use Rattle.std.proofs.Common.{◌≡◌, ℕ, zero, suc, ◌+◌, ◌*◌, ◌/◌, ◌%◌, ◌<◌, ◌≤◌, Bool, true, false, cond, eqb, ◌&&◌, List, [], ◌∷◌, ◌++◌, length, get_or, drop, Some, None, Ok, Err, Option, Result, sym, refl, ap, ◌∙◌, append_assoc, arith}
 use Rattle.std.specs.List.{All, flat_map}
-use Rattle.std.proofs.lemmas.List.{drop_more, drop_all, append-nil, get_or_past}
+use Rattle.std.proofs.lemmas.List.{drop_more, drop_all, append-nil}
 use Rattle.std.proofs.lemmas.List.Elements.{All-get_or}
 use Rattle.std.proofs.lemmas.Bool.{eqb-true, leb-true}
 use Rattle.slots.specs.declared.refusal.Refusal.{Refusal}
-use Rattle.slots.specs.Slots.{append_answer}
 use Rattle.protocol.specs.declared.kind.GroupKind.{GroupKind}
 use Rattle.protocol.specs.declared.kind.GroupKind.TheVariants.{Closed, Expanding, Dynamic}
 use Rattle.protocol.specs.Kinds.{group_kind, group_number}
-use Rattle.orders.specs.declared.fault.ReadCause.{ReadCause}
-use Rattle.orders.specs.declared.fault.ReadCause.TheVariants.{NotWhole, Append}
+use Rattle.orders.specs.declared.fault.ReadCause.TheVariants.{NotWhole}
 use Rattle.orders.specs.declared.fault.ReadFault.{ReadFault}
 use Rattle.orders.specs.declared.order.Order.{Order}
 use Rattle.orders.specs.declared.order.OrderKind.{OrderKind}
@@ -21,7 +19,7 @@ use Rattle.orders.specs.declared.start.Start.{Start}
 use Rattle.orders.specs.Kinds.{order_kind, order_number, pace_kind, pace_number}
 use Rattle.orders.specs.Reading.{whole, number_at, fault, order_at, order_of, start_at, start_of}
 use Rattle.orders.specs.Writing.{number_bytes, order_bytes, start_bytes, bytes_of_file}
-use Rattle.orders.specs.Loading.{Loaded, tick_of, kept, taken, orders_from, started, loaded, LoadedFilesAreWritten}
+use Rattle.orders.specs.Loading.{Loaded, kept, taken, orders_from, started, LoadedFilesAreWritten}
 
 differ : {A : Type 0} → ◌≡◌ {A = ℕ} 0 1 → A
 differ e = absurd (omega (arith, e))

@@ -53,15 +53,30 @@ pub record TextsByHand : Type 0 where
   pub expanding_read :
       reads (codes "expanding 7 halving 3 4 cap 5") []
       ≡ ended (Ok record { kind = Expanding; parties = 7; tmin = 3; tmax = 4; pace = Halving; cap = 5 }) 1 [] []
-  pub no_start : Tells (codes "# nothing\n") (codes "refused line 2 number 15: no start\n")
-  pub missing_word : Tells (codes "closed 2 halving 1 10 cap\n") (codes "refused line 1 number 15: a word is missing\n")
-  pub word_too_many : Tells (closed_start ++ codes "4 wait 0\n") (codes "refused line 2 number 15: a word too many\n")
-  pub unknown_word : Tells (codes "open 2 halving 1 10 cap 64\n") (codes "refused line 1 number 16: a word is not known here\n")
-  pub not_a_number : Tells (closed_start ++ codes "x wait\n") (codes "refused line 2 number 16: a number has a byte that is no digit\n")
-  pub number_too_large : Tells (codes "closed 256 halving 1 10 cap 64\n") (codes "refused line 1 number 16: a number is too large\n")
+  pub no_start :
+      Tells (codes "# nothing\n")
+      (codes "refused line 2 number 15: no start\n")
+  pub missing_word :
+      Tells (codes "closed 2 halving 1 10 cap\n")
+      (codes "refused line 1 number 15: a word is missing\n")
+  pub word_too_many :
+      Tells (closed_start ++ codes "4 wait 0\n")
+      (codes "refused line 2 number 15: a word too many\n")
+  pub unknown_word :
+      Tells (codes "open 2 halving 1 10 cap 64\n")
+      (codes "refused line 1 number 16: a word is not known here\n")
+  pub not_a_number :
+      Tells (closed_start ++ codes "x wait\n")
+      (codes "refused line 2 number 16: a number has a byte that is no digit\n")
+  pub number_too_large :
+      Tells (codes "closed 256 halving 1 10 cap 64\n")
+      (codes "refused line 1 number 16: a number is too large\n")
   pub earlier_tick :
-      Tells (closed_start ++ codes "4 wait\n3 wait\n") (codes "refused line 3 number 14: the tick is before that of the order before\n")
+      Tells (closed_start ++ codes "4 wait\n3 wait\n")
+      (codes "refused line 3 number 14: the tick is before that of the order before\n")
   pub no_slot :
-      Tells (closed_start ++ codes "4 wait\n4 wait\n4 wait\n") (codes "refused line 4 number 12: more orders than there is room for\n")
+      Tells (closed_start ++ codes "4 wait\n4 wait\n4 wait\n")
+      (codes "refused line 4 number 12: more orders than there is room for\n")
   pub no_room :
-      Tells (closed_start ++ codes "4 wait\n4 wait\n") (codes "refused line 4 number 12: the order file is longer than the output\n")
+      Tells (closed_start ++ codes "4 wait\n4 wait\n")
+      (codes "refused line 4 number 12: the order file is longer than the output\n")
