@@ -14,7 +14,7 @@ use Rattle.graphml.specs.Body.{is_owned, is_arrived, is_arrival, arrival_edge, l
 use Rattle.graphml.specs.Numbers.{Each}
 use Rattle.graphml.specs.Answer.{in_frame}
 use Rattle.graphml.specs.Closing.{Content, empty, element as holds, Closes}
-use Rattle.graphml.specs.Reading.{Entry, Item, happened, joined, each_in, happening_of, place_of, edge_of, party_item, parties_read, keys_read, happening_keys}
+use Rattle.graphml.specs.Reading.{Entry, Item, happened, joined, each_in, happening_of, place_of, edge_of, party_item, parties_read, keys_read, happening_keys, graphs_read}
 use Rattle.graphml.specs.Log.{entry, entries, items_from, items_of, numbers, all_read}
 use Rattle.graphml.proofs.Scanned.{node_attrs, edge_attrs}
 use Rattle.graphml.proofs.Shapes.{chosen, kept_each}
@@ -174,7 +174,11 @@ pub parties_found : (log : List Happening) (n : ℕ) → n < 2 ^ 64 → parties_
 unfolding parties_read
 parties_found log n p = rw (frame_grown (body log n) (body_framed log n)) (each_seen log 0 (n + 1) empty (omega arith))
 
--- the keys, whatever the graph holds
+-- the keys and the one graph, whatever that holds
 pub keys_found : (f : Forest) → Each Framed f → keys_read (in_frame f) ≡ happening_keys
 unfolding keys_read
 keys_found f h = rw (frame_grown f h) refl
+
+pub graphs_found : (f : Forest) → Each Framed f → graphs_read (in_frame f) ≡ codes "run" ∷ []
+unfolding graphs_read
+graphs_found f h = rw (frame_grown f h) refl

@@ -1,12 +1,14 @@
 -- Each place of the log stands once in its file.
-use Rattle.std.proofs.Common.{◌≡◌, ℕ, zero, suc, ◌+◌, ◌<◌, ◌≤◌, ◌==◌, Bool, true, false, cond, List, [], ◌∷◌, ◌++◌, map, length, refl, ap, ◌∙◌, subst, zero-add, eq-eqb, ne_eqb, eqb-true, ⊎_elim, arith, Some}
+use Rattle.std.proofs.Common.{◌≡◌, ℕ, zero, suc, ◌+◌, ◌<◌, ◌≤◌, ◌==◌, Bool, true, false, cond, List, [], ◌∷◌, ◌++◌, map, length, take, refl, ap, ◌∙◌, subst, zero-add, eq-eqb, ne_eqb, eqb-true, ltb, ⊎_elim, arith, Some}
 use Rattle.std.specs.List.{flat_map, All}
 use Rattle.std.proofs.lemmas.List.Elements.{All-cons}
+use borrow.Author.Tests.{ltb-true, ltb-false}
 use Rattle.std.proofs.lemmas.Bool.{cases_Bool, eqb-false}
 use Rattle.protocol.specs.declared.happening.Happening.{Happening}
 use Rattle.protocol.specs.Beats.{Edge, edge as arc, edges, happening_at, is_arrival, Linked}
 use Rattle.graphml.specs.Reading.{Entry, Item, happened, joined, place_of, places_read}
-use Rattle.graphml.specs.Log.{entry, entries, items_from, items_of, OwnersWithin, times, HasBothEnds, all_read}
+use Rattle.protocol.specs.Order.{OwnedUpTo}
+use Rattle.graphml.specs.Log.{entry, entries, items_from, items_of, times, HasBothEnds, all_read}
 use Rattle.graphml.proofs.Told.{read}
 use Rattle.graphml.proofs.Found.{split_places}
 
@@ -25,6 +27,17 @@ before i j k (w ∷ hs) h =
     let rest : List Entry = entries i (j + 1) hs in
     let other : (j == k) ≡ false = ne_eqb j k (λ e. omega arith) in
     let later : times_in k (map (happened i) rest) ≡ 0 = before i (j + 1) k hs (omega arith) in
+    elim (w.owner == i) as (λ (b : Bool). times_in k (map (happened i) (cond b (entry j w ∷ rest) rest)) ≡ 0) [
+      | true ↦ ap (λ (b : Bool). cond b 1 0 + times_in k (map (happened i) rest)) other ∙ zero-add (times_in k (map (happened i) rest)) ∙ later
+      | false ↦ later
+    ]
+
+past : (i j k : ℕ) (hs : List Happening) → j + length hs ≤ k → times_in k (map (happened i) (entries i j hs)) ≡ 0
+past i j k [] h = refl
+past i j k (w ∷ hs) h =
+    let rest : List Entry = entries i (j + 1) hs in
+    let other : (j == k) ≡ false = ne_eqb j k (λ e. omega arith) in
+    let later : times_in k (map (happened i) rest) ≡ 0 = past i (j + 1) k hs (omega arith) in
     elim (w.owner == i) as (λ (b : Bool). times_in k (map (happened i) (cond b (entry j w ∷ rest) rest)) ≡ 0) [
       | true ↦ ap (λ (b : Bool). cond b 1 0 + times_in k (map (happened i) rest)) other ∙ zero-add (times_in k (map (happened i) rest)) ∙ later
       | false ↦ later
@@ -80,7 +93,45 @@ module _ (log : List Happening) (k : ℕ) (here : k < length log) where
       (λ e. let other : owner ≡ i → ⊥ = eqb-false owner i e in rw e (zero-add (times_in k (items_from log (i + 1) m)) ∙ once (i + 1) m (omega arith) (omega arith)))
       (cases_Bool (owner == i))
 
-pub places_once : (n : ℕ) (log : List Happening) → OwnersWithin n log → (k : ℕ) → k < length log → times_in k (items_of n log) ≡ 1
+  once_at_most : (i m : ℕ) → times_in k (items_from log i m) ≤ 1
+  once_at_most i zero = let none = no_edge k (edges 0 log) in omega arith
+  once_at_most i (suc m) =
+      let after : ℕ = times_in k (items_from log (i + 1) m) in
+      ⊎_elim
+      (λ e.
+      let same : owner ≡ i = eqb-true owner i e in
+      let none : after ≡ 0 = past_it (i + 1) m (omega arith) in
+      let all : times_in k (items_from log i (suc m)) ≡ 1 = one_more i m ∙ (λ x. cond (e x) 1 0 + none x) in
+      omega arith)
+      (λ e.
+      let rest : after ≤ 1 = once_at_most (i + 1) m in
+      let all : times_in k (items_from log i (suc m)) ≡ 0 + after = one_more i m ∙ ap (λ (b : Bool). cond b 1 0 + after) e in
+      omega arith)
+      (cases_Bool (owner == i))
+
+-- no place past the log's end
+none_past : (log : List Happening) (k : ℕ) → length log ≤ k → (i m : ℕ) → times_in k (items_from log i m) ≡ 0
+none_past log k h i zero = no_edge k (edges 0 log)
+none_past log k h i (suc m) =
+    ap (times k) (split_places (map (happened i) (entries i 0 log)) (items_from log (i + 1) m))
+    ∙ times-append k (flat_map place_of (read (map (happened i) (entries i 0 log)))) (flat_map place_of (read (items_from log (i + 1) m)))
+    ∙ (λ x. past i 0 k log (omega arith) x + none_past log k h (i + 1) m x)
+
+pub places_once_at_most : (n : ℕ) (log : List Happening) (k : ℕ) → times_in k (items_of n log) ≤ 1
+places_once_at_most n log k =
+    ⊎_elim
+    (λ l. once_at_most log k (ltb-true k (length log) l) 0 (n + 1))
+    (λ l. let past_end = ltb-false k (length log) l in let none = none_past log k (omega arith) 0 (n + 1) in omega arith)
+    (cases_Bool (ltb k (length log)))
+
+-- of a first part no more
+pub fewer : (k c : ℕ) (xs : List Item) → times_in k (take c xs) ≤ times_in k xs
+fewer k zero xs = omega arith
+fewer k (suc c) [] = omega arith
+fewer k (suc c) (happened i e ∷ xs) = let rest = fewer k c xs in omega arith
+fewer k (suc c) (joined e ∷ xs) = fewer k c xs
+
+pub places_once : (n : ℕ) (log : List Happening) → OwnedUpTo n log → (k : ℕ) → k < length log → times_in k (items_of n log) ≡ 1
 places_once n log within k here = let h = within k here in once log k here 0 (n + 1) (omega arith) (omega arith)
 
 -- both ends of each edge are places of the log

@@ -1,8 +1,11 @@
 -- The file of a run out of what the export promises of it.
-use Rattle.std.proofs.Common.{◌≡◌, ℕ, ◌-◌, Bool, true, false, cond, List, length, take, IfOk, Err, Result, ap, ◌∙◌, subst}
+use Rattle.std.proofs.Common.{◌≡◌, ℕ, ◌-◌, Bool, true, false, cond, List, length, take, IfOk, Ok, Err, Result, ap, ◌∙◌, subst}
+use Rattle.pace.specs.Meaning.{Meaning}
 use Rattle.protocol.specs.declared.plan.Plan.{Plan}
+use Rattle.protocol.specs.declared.call.Step.{Step}
 use Rattle.protocol.specs.Group.{Play}
-use Rattle.protocol.specs.Order.{LogInOrder}
+use Rattle.protocol.specs.Beats.{edges}
+use Rattle.protocol.specs.Promise.{KeepsTheRules}
 use Rattle.protocol.proofs.Own.{own_log}
 use Rattle.graphml.specs.declared.answer.Exported.{Exported}
 use Rattle.graphml.specs.declared.answer.Refusal.{Refusal}
@@ -13,19 +16,37 @@ use Rattle.graphml.specs.Closing.{Closes}
 use Rattle.graphml.specs.Log.{ShowsTheLog}
 use Rattle.graphml.specs.Answer.{in_frame, exported, written}
 use Rattle.graphml.specs.Export.{export_answer, export_bytes}
-use Rattle.graphml.specs.Shown.{ShowsTheRun}
+use Rattle.graphml.specs.Shown.{ShowsTheDeliveries, ShowsTheRun}
+
+if_ok : (r : Result Exported Refusal) (P Q : Exported → Type 0) → ((x : Exported) → P x → Q x) → IfOk r P → IfOk r Q
+if_ok (Ok x) P Q f h = f x h
+if_ok (Err e) P Q f h = tt
+
+-- the premises of what a file shows of a log hold of each run
+deliveries_shown :
+    (m : Meaning) (plan : Plan) (room : ℕ) (steps : List Step) (s : Play) (x : Exported) (bs : List ℕ) →
+    KeepsTheRules m plan room steps s → ShowsTheLog plan.n s.log x bs → x.whole ≡ true → ShowsTheDeliveries m plan room steps s.log bs
+deliveries_shown m plan room steps s x bs kept shown whole = record {
+  edges = edges 0 s.log;
+  read = shown.edges whole;
+  deliveries = kept.edges_are_the_granted_deliveries;
+  each_place_once = shown.each_place_once whole kept.log_in_order.owned;
+  edges_have_both_ends =
+      shown.edges_have_both_ends whole kept.log_in_order.owned kept.beats_go_back_to_their_sendings.arrivals;
+}
 
 -- the export was made of a group whose plan is the run's
 pub shows :
-    (plan : Plan) (s : Play) (out out' : List ℕ) (r : Result Exported Refusal) (p : Plan) → p ≡ plan →
-    LogInOrder plan s → r ≡ export_answer s p.n (length out) → out' ≡ export_bytes s p.n out →
+    (m : Meaning) (plan : Plan) (room : ℕ) (steps : List Step) (s : Play) (out out' : List ℕ) (r : Result Exported Refusal) (p : Plan) → p ≡ plan →
+    KeepsTheRules m plan room steps s → r ≡ export_answer s p.n (length out) → out' ≡ export_bytes s p.n out →
     IfOk r (λ x. x.whole ≡ true → take x.bytes out' ≡ in_frame (body s.log p.n)) →
     IfOk r (λ x. x.whole ≡ false → EndsAt (length out - 275) (body s.log p.n)) →
     IfOk r (λ x. Closes (take x.bytes out')) →
     IfOk r (λ x. ShowsTheLog p.n s.log x (take x.bytes out')) →
-    ShowsTheRun plan s out out' r
-shows plan s out out' r p same order answer bytes whole cut closes shown =
-    let mine = own_log plan s order in
+    ShowsTheRun m plan room steps s out out' r
+shows m plan room steps s out out' r p same kept answer bytes whole cut closes shown =
+    let mine = own_log plan s kept.log_in_order in
+    let log_shown = subst (λ (q : Plan). IfOk r (λ x. ShowsTheLog q.n s.log x (take x.bytes out'))) same shown in
     record {
       answer_as_defined =
           answer ∙ ap (λ (q : Plan). export_answer s q.n (length out)) same
@@ -35,5 +56,6 @@ shows plan s out out' r p same order answer bytes whole cut closes shown =
       whole_as_defined = subst (λ (q : Plan). IfOk r (λ x. x.whole ≡ true → take x.bytes out' ≡ in_frame (body s.log q.n))) same whole;
       cut_at_the_first_that_does_not_fit = subst (λ (q : Plan). IfOk r (λ x. x.whole ≡ false → EndsAt (length out - 275) (body s.log q.n))) same cut;
       closes = closes;
-      shows_the_log = subst (λ (q : Plan). IfOk r (λ x. ShowsTheLog q.n s.log x (take x.bytes out'))) same shown;
+      shows_the_log = log_shown;
+      shows_the_deliveries = if_ok r _ _ (λ x. deliveries_shown m plan room steps s x (take x.bytes out') kept) log_shown;
     }

@@ -31,13 +31,6 @@ use Rattle.graphml.proofs.Forests.{kept_stop, kept_cut, kept_on}
 own : IsNumeralModel (λ ds. all_ascii_digits ds ≡ true) (read_on 0)
 own = numerals_by_fold _ (search rules) read_on (search rules)
 
-number_of : (ds : List ℕ) → 0 < length ds → all_ascii_digits ds ≡ true → number ds ≡ Some (read_on 0 ds)
-number_of [] h p = absurd (omega arith)
-number_of (d ∷ ds) h p = rw p
-
-pub number_decimal : (n : ℕ) → n < 2 ^ 64 → number (decimal n) ≡ Some n
-number_decimal n h = number_of (decimal n) (decimal_nonempty n h) (digits_decimal own n h) ∙ ap Some (digits_value-decimal own n h)
-
 pub kind_back : (k : HappeningKind) → kind_named (word k) ≡ Some k
 kind_back Sent = refl
 kind_back Arrived = refl
@@ -53,6 +46,9 @@ kind_back Leaving = refl
 pub same_bytes : (bs : List ℕ) → bytes_eq bs bs ≡ true
 same_bytes [] = refl
 same_bytes (b ∷ bs) = rw (eq-eqb b b refl) (same_bytes bs)
+
+pub number_decimal : (n : ℕ) → n < 2 ^ 64 → number (decimal n) ≡ Some n
+number_decimal n h = rw (digits_value-decimal own n h, same_bytes (decimal n)) refl
 
 said_back : (t : List ℕ) → text_in (said empty t) ≡ t
 said_back [] = refl

@@ -17,15 +17,16 @@ use Rattle.graphml.specs.Counts.{count, is_happening, is_edge}
 use Rattle.graphml.specs.Numbers.{Each, Fits}
 use Rattle.graphml.specs.Closing.{Closes}
 use Rattle.graphml.specs.Reading.{Item, items_read, happening_of, place_of, places_read, edge_of, edges_read, parties_read}
-use Rattle.graphml.specs.Log.{items_of, OwnersWithin, times, HasBothEnds, all_read, ShowsTheLog}
+use Rattle.protocol.specs.Order.{OwnedUpTo}
+use Rattle.graphml.specs.Log.{items_of, times, HasBothEnds, all_read, ShowsTheLog}
 use Rattle.graphml.specs.Answer.{in_frame, part, over, written, summary, exported}
 use Rattle.graphml.specs.State.{State, wrote, drawn}
 use Rattle.graphml.proofs.Forests.{kept_le, kept_whole, length_render}
 use Rattle.graphml.proofs.Shapes.{in_run, kept_shaped, kept_each, body_shaped}
 use Rattle.graphml.proofs.Growing.{Framed}
 use Rattle.graphml.proofs.Told.{things, frame_told, all_counted, edges_counted, first_taken}
-use Rattle.graphml.proofs.Once.{places_once, ends_found}
-use Rattle.graphml.proofs.Found.{part_closes, body_framed, body_is, edges_found, happenings_found, parties_found, keys_found}
+use Rattle.graphml.proofs.Once.{places_once, places_once_at_most, fewer, ends_found}
+use Rattle.graphml.proofs.Found.{part_closes, body_framed, body_is, edges_found, happenings_found, parties_found, keys_found, graphs_found}
 
 pub length_head : length head ≡ 255
 unfolding head
@@ -112,7 +113,7 @@ module _ (out : List ℕ) (log : List Happening) (n : ℕ) (h : 275 ≤ length o
     all_edges : whole ≡ true → edges_read text ≡ all_read (edges 0 log)
     all_edges w = ap (flat_map edge_of) (all_told w) ∙ edges_found n log
 
-    once_each : whole ≡ true → OwnersWithin n log → (k : ℕ) → k < length log → times k (places_read text) ≡ 1
+    once_each : whole ≡ true → OwnedUpTo n log → (k : ℕ) → k < length log → times k (places_read text) ≡ 1
     once_each w within k here = ap (λ (l : List (Option Item)). times k (flat_map place_of l)) (all_told w) ∙ places_once n log within k here
 
     -- of the answer to it
@@ -122,6 +123,12 @@ module _ (out : List ℕ) (log : List Happening) (n : ℕ) (h : 275 ≤ length o
       all_counted = ap (λ (l : List (Option Item)). length l) told ∙ length-map (things 0 fit) (λ x. Some x) ∙ all_counted 0 fit;
       edges_counted = ap (λ (l : List (Option Item)). length (flat_map edge_of l)) told ∙ edges_counted 0 fit;
       keys = keys_found fit (kept_each Framed (length out - 275) (body log n) (body_framed log n));
+      one_graph = graphs_found fit (kept_each Framed (length out - 275) (body log n) (body_framed log n));
+      no_place_twice = λ k.
+          let few = ap (λ (l : List (Option Item)). times k (flat_map place_of l)) (told ∙ ap all_read first) in
+          let part = fewer k (count is_happening fit + count is_edge fit) (items_of n log) in
+          let all = places_once_at_most n log k in
+          omega arith;
       parties = λ w. ap (λ g. parties_read (in_frame g)) (all_kept w) ∙ parties_found log n small;
       happenings = λ w i h. ap (flat_map (happening_of i)) (all_told w) ∙ happenings_found n log i h;
       edges = all_edges;

@@ -1,10 +1,11 @@
 -- What a reader is to find of a log in its file.
-use Rattle.std.specs.Prelude.{◌≡◌, ℕ, zero, suc, ◌+◌, ◌<◌, ◌≤◌, cond, ◌==◌, true, List, [], ◌∷◌, ◌++◌, map, length, take, Some, None, Option}
+use Rattle.std.specs.Prelude.{◌≡◌, ℕ, zero, suc, ◌+◌, ◌<◌, ◌≤◌, cond, ◌==◌, true, List, [], ◌∷◌, ◌++◌, map, length, take, codes, Some, None, Option}
 use Rattle.std.specs.List.{All}
 use Rattle.protocol.specs.declared.happening.Happening.{Happening}
-use Rattle.protocol.specs.Beats.{Edge, edges, happening_at, Linked}
+use Rattle.protocol.specs.Beats.{Edge, edges, Linked}
+use Rattle.protocol.specs.Order.{OwnedUpTo}
 use Rattle.graphml.specs.declared.answer.Exported.{Exported}
-use Rattle.graphml.specs.Reading.{Entry, Item, happened, joined, items_read, happenings_read, edges_read, places_read, parties_read, keys_read, happening_keys}
+use Rattle.graphml.specs.Reading.{Entry, Item, happened, joined, items_read, happenings_read, edges_read, places_read, parties_read, keys_read, happening_keys, graphs_read}
 
 abbrev pub entry : ℕ → Happening → Entry
 entry k h = record { place = k; tick = h.tick; kind = h.kind }
@@ -28,10 +29,6 @@ abbrev pub numbers : ℕ → ℕ → List ℕ
 numbers i zero = []
 numbers i (suc m) = i ∷ numbers (i + 1) m
 
--- no record is of a party past n
-abbrev pub OwnersWithin : ℕ → List Happening → Type 0
-OwnersWithin n log = (k : ℕ) → k < length log → (happening_at log k).owner ≤ n
-
 -- how many of these are k
 abbrev pub times : ℕ → List ℕ → ℕ
 times k [] = 0
@@ -53,6 +50,9 @@ pub record ShowsTheLog (n : ℕ) (log : List Happening) (x : Exported) (bs : Lis
   pub all_counted : length (items_read bs) ≡ x.happenings + x.edges
   pub edges_counted : length (edges_read bs) ≡ x.edges
   pub keys : keys_read bs ≡ happening_keys
+  pub one_graph : graphs_read bs ≡ codes "run" ∷ []
+  -- a place is read from its node's id: no such id stands twice
+  pub no_place_twice : (k : ℕ) → times k (places_read bs) ≤ 1
   -- whole, it has the parties 0 to n, of each its records, and the edges of the arrivals, all in their order
   pub parties : x.whole ≡ true → parties_read bs ≡ all_read (numbers 0 (n + 1))
   pub happenings : x.whole ≡ true → (i : ℕ) → i ≤ n → happenings_read i bs ≡ all_read (entries i 0 log)
@@ -60,6 +60,6 @@ pub record ShowsTheLog (n : ℕ) (log : List Happening) (x : Exported) (bs : Lis
   pub no_others : x.whole ≡ true → items_read bs ≡ all_read (items_of n log)
   -- and so each place of the log stands once
   pub each_place_once :
-      x.whole ≡ true → OwnersWithin n log → (k : ℕ) → k < length log → times k (places_read bs) ≡ 1
+      x.whole ≡ true → OwnedUpTo n log → (k : ℕ) → k < length log → times k (places_read bs) ≡ 1
   pub edges_have_both_ends :
-      x.whole ≡ true → OwnersWithin n log → Linked n log → All (HasBothEnds bs) (edges_read bs)
+      x.whole ≡ true → OwnedUpTo n log → Linked n log → All (HasBothEnds bs) (edges_read bs)

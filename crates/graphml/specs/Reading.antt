@@ -1,7 +1,6 @@
 -- The run that a GraphML reader sees in a file: its keys, its parties, their happenings and the edges.
-use Rattle.std.specs.Prelude.{ℕ, ◌==◌, ◌&&◌, Bool, true, List, [], ◌∷◌, ◌++◌, Some, None, Option, codes, bytes_eq, if◌then◌else◌}
+use Rattle.std.specs.Prelude.{ℕ, ◌==◌, ◌&&◌, Bool, true, false, List, [], ◌∷◌, ◌++◌, Some, None, Option, codes, bytes_eq, decimal, if◌then◌else◌}
 use Rattle.std.specs.List.{flat_map}
-use Rattle.std.specs.Str.{all_ascii_digits}
 use Rattle.text.specs.Numeral.{read_on}
 use Rattle.protocol.specs.declared.happening.HappeningKind.{HappeningKind}
 use Rattle.protocol.specs.declared.happening.HappeningKind.TheVariants.{Sent, Arrived, Lost, Enrolled, Struck, Crashed, Stopped, Left, Joining, Leaving}
@@ -28,10 +27,9 @@ value_at k (a ∷ xs) = if bytes_eq a.key k then a.value else value_at k xs
 abbrev pub id_of : List Attribute → List ℕ
 id_of xs = value_at (codes "id") xs
 
--- digits, at least one, as a number
+-- a number without leading zeros
 abbrev pub number : List ℕ → Option ℕ
-number [] = None
-number (d ∷ ds) = if all_ascii_digits (d ∷ ds) then Some (read_on 0 (d ∷ ds)) else None
+number ds = if bytes_eq ds (decimal (read_on 0 ds)) then Some (read_on 0 ds) else None
 
 -- the number after that letter
 abbrev pub numbered : ℕ → List ℕ → Option ℕ
@@ -95,10 +93,19 @@ abbrev pub join : Option ℕ → Option ℕ → Option Item
 join (Some a) (Some b) = Some (joined (edge a b))
 join _ _ = None
 
--- a happening of party i is a node with its tick and its kind as data
+abbrev pub is_datum : List ℕ → List Attribute → Content → List Bool
+is_datum n xs inside = bytes_eq n (codes "data") ∷ []
+
+abbrev pub are_two : List Bool → Bool
+are_two (true ∷ true ∷ []) = true
+are_two _ = false
+
+-- a happening of party i is a node that holds two data alone, its tick and its kind
 abbrev pub happening_told : Option ℕ → List Attribute → Content → Option Item
 happening_told i xs inside =
-    happening i (place_named (id_of xs)) (number (datum (codes "t") inside)) (kind_named (datum (codes "k") inside))
+    if are_two (each_in is_datum inside)
+    then happening i (place_named (id_of xs)) (number (datum (codes "t") inside)) (kind_named (datum (codes "k") inside))
+    else None
 
 abbrev pub edge_told : List Attribute → Option Item
 edge_told xs =
@@ -216,3 +223,10 @@ abbrev pub happening_keys : List (Option Key)
 happening_keys =
     Some (key (codes "t") (codes "node") (codes "tick") (codes "long"))
     ∷ Some (key (codes "k") (codes "node") (codes "what") (codes "string")) ∷ []
+
+-- the ids of the graphs right in the outermost element
+abbrev pub graph_id : List ℕ → List Attribute → Content → List (List ℕ)
+graph_id n xs inside = if bytes_eq n (codes "graph") then id_of xs ∷ [] else []
+
+unfoldable pub graphs_read : List ℕ → List (List ℕ)
+graphs_read bs = in_tree (in_file graph_id) (tree bs)

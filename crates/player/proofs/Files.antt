@@ -108,13 +108,13 @@ module _ (m : Meaning) (sound : Lawful m) (plan : Plan) (orders : List Order) (h
     played hs' out out' p r bytes lines h same answer written entire cut closes shows_log prints =
         let here = subst (KeepsTheRules m plan (length hs) taken.steps) (sym play_is) kept in
         let shown =
-        subst (λ x. ShowsTheRun plan x out out' r) play_is
-        (shows plan (play t' l') out out' r p same here.log_in_order answer written entire cut closes shows_log) in
+        subst (λ x. ShowsTheRun m plan (length hs) taken.steps x out out' r) play_is
+        (shows m plan (length hs) taken.steps (play t' l') out out' r p same here answer written entire cut closes shows_log) in
         record {
           made = taken;
           promise = kept;
           log = h ∙ log_is;
-          file = subst (ShowsTheRun plan ran.play out out') shown.answer_as_defined shown;
+          file = subst (ShowsTheRun m plan (length hs) taken.steps ran.play out out') shown.answer_as_defined shown;
           prints =
               subst (λ x. Prints x ran.stop bytes lines) shown.answer_as_defined
               (subst (λ x. Prints r x bytes lines) (stopped ∙ ap (λ (x : Playing). x.stop) from_new) prints);

@@ -64,7 +64,7 @@ pub record Played (m : Meaning) (plan : Plan) (orders : List Order) (hs hs' : Li
   -- the run's records, and behind them what the slots held
   pub log : hs' ≡ (run m plan (length hs) orders).play.log ++ drop (length (run m plan (length hs) orders).play.log) hs
   -- the output holds the file of that run
-  pub file : ShowsTheRun plan (run m plan (length hs) orders).play out out' (exported (run m plan (length hs) orders).play.log plan.n (length out))
+  pub file : ShowsTheRun m plan (length hs) made.steps (run m plan (length hs) orders).play out out' (exported (run m plan (length hs) orders).play.log plan.n (length out))
   pub prints : Prints (exported (run m plan (length hs) orders).play.log plan.n (length out)) (run m plan (length hs) orders).stop bytes lines
 
 -- the same for a file that is not

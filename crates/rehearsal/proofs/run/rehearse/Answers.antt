@@ -61,7 +61,8 @@ returns g c =
     let promise : Promised m plan xs c.loop-step.group.table l'.len slots l'.slots.now c.args.out.now c.export-exported.new.out c.export-exported.result = record {
       run = run;
       later_slots_kept = inv.4.later ∙ ap (λ (ys : List Happening). drop l'.len ys) lent;
-      file = shows plan s _ _ _ c.loop-step.group.plan (inv.3 ∙ o.plan) run.log_in_order x.answer x.bytes x.whole x.cut x.closes x.shown;
+      file = shows m plan (length slots) xs s _ _ _ c.loop-step.group.plan (inv.3 ∙ o.plan) run
+          x.answer x.bytes x.whole x.cut x.closes x.shown;
     } in
     let tie = inv.4.lent ∙ c.new-log.ensures.lent in
     let back : (k : ℕ) (ys : List Happening) → k ≡ l'.len → ys ≡ l'.slots.now → Promised m plan xs c.loop-step.group.table k slots ys c.args.out.now c.export-exported.new.out c.export-exported.result =
