@@ -15,6 +15,7 @@ use Rattle.protocol.specs.declared.table.Root.{Root}
 use Rattle.protocol.specs.declared.table.Root.TheVariants.{Running}
 use Rattle.protocol.specs.Words.{kind_number}
 use Rattle.protocol.specs.Patience.{patience}
+use Rattle.protocol.specs.Plans.{parties_no}
 use Rattle.protocol.specs.Group.{Play}
 use Rattle.protocol.specs.Runs.{played, answered}
 use Rattle.graphml.specs.declared.answer.Exported.{Exported}
@@ -32,7 +33,6 @@ use Rattle.player.specs.declared.notices.PlayedFile.{PlayedFile}
 use Rattle.player.specs.declared.notices.RefusedFile.{RefusedFile}
 use Rattle.player.specs.Playing.{Playing, plays}
 use Rattle.player.specs.Notices.{notice_lines}
-use Rattle.protocol.specs.Plans.{parties_no}
 
 -- a group before its calls: its pace and plan, the slots that are lent for its log, its table and log
 pub record Setting : Type 0 where

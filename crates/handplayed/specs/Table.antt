@@ -8,11 +8,11 @@ use Rattle.protocol.specs.declared.party.Ending.TheVariants.{Crashed, Stopped, L
 use Rattle.protocol.specs.declared.party.Roll.TheVariants.{Off, On, Struck}
 use Rattle.protocol.specs.declared.party.Stage.TheVariants.{Joining, In, Leaving}
 use Rattle.protocol.specs.declared.party.Standing.TheVariants.{Live, Ended}
-use Rattle.protocol.specs.declared.refusal.Refusal.TheVariants.{BeatDue}
+use Rattle.protocol.specs.declared.refusal.Refusal.TheVariants.{NoSlot, BeatDue}
 use Rattle.protocol.specs.declared.table.Root.TheVariants.{Running}
 use Rattle.orders.specs.declared.order.Order.{Order}
 use Rattle.orders.specs.declared.order.OrderKind.{OrderKind}
-use Rattle.orders.specs.declared.order.OrderKind.TheVariants.{Deliver as ToDeliver, Crash as ToCrash, Join as ToJoin, Wait}
+use Rattle.orders.specs.declared.order.OrderKind.TheVariants.{Deliver as ToDeliver, Lose as ToLose, Crash as ToCrash, Join as ToJoin, Leave as ToLeave, Wait}
 use Rattle.orders.specs.declared.start.PaceKind.TheVariants.{Halving, TwoPhase}
 use Rattle.orders.specs.declared.start.Start.{Start}
 use Rattle.player.specs.declared.play.PlayFault.TheVariants.{Refused}
@@ -423,6 +423,21 @@ join = order ToJoin 1 9 5
 abbrev pub deliver : Order
 deliver = order ToDeliver 2 3 16909060
 
+-- an expanding group, and one more order of each kind
+abbrev pub other_start : Start
+other_start = record { kind = Expanding; parties = 32; tmin = 2; tmax = 256; pace = Halving; cap = 3 }
+
+abbrev pub other_bytes : List ℕ
+other_bytes =
+    (0x48 ∷ 0x47 ∷ 0x02 ∷ 0x20 ∷ 0x00 ∷ 0x00 ∷ 0x00 ∷ 0x02 ∷ 0x00 ∷ 0x00 ∷ 0x01 ∷ 0x00 ∷ 0x01 ∷ 0x03 ∷ [])
+    ++ ((0x48 ∷ 0x4F ∷ 0x02 ∷ 0x01 ∷ 0x02 ∷ 0x00 ∷ 0x00 ∷ 0x00 ∷ 0xFF ∷ [])
+    ++ ((0x48 ∷ 0x4F ∷ 0x03 ∷ 0x00 ∷ 0x00 ∷ 0x00 ∷ 0x00 ∷ 0x01 ∷ 0x00 ∷ [])
+    ++ ((0x48 ∷ 0x4F ∷ 0x05 ∷ 0x04 ∷ 0x00 ∷ 0x00 ∷ 0x00 ∷ 0x01 ∷ 0x00 ∷ [])
+    ++ (0x48 ∷ 0x4F ∷ 0x06 ∷ 0x00 ∷ 0x00 ∷ 0x00 ∷ 0x01 ∷ 0x00 ∷ 0x00 ∷ []))))
+
+abbrev pub other_orders : List Order
+other_orders = order ToLose 1 2 255 ∷ order ToCrash 0 0 256 ∷ order ToLeave 4 0 256 ∷ order Wait 0 0 65536 ∷ []
+
 -- what is refused of a file: its number and its byte place, after such orders
 abbrev pub refused : ℕ → ℕ → List Order → Outcome
 refused n byte os = record nothing { answers = n ∷ []; place = byte; orders = os }
@@ -431,6 +446,8 @@ abbrev pub order_files : List Example
 order_files =
     example (reading small_start_bytes 0) record nothing { answers = 0 ∷ []; start = Some small_start }
     ∷ example (reading (start_bytes ++ (join_bytes ++ deliver_bytes)) 2) record nothing { answers = 0 ∷ []; start = Some start; orders = join ∷ deliver ∷ [] }
+    ∷ example (reading other_bytes 4) record nothing { answers = 0 ∷ []; start = Some other_start; orders = other_orders }
+    ∷ example (writing other_start other_orders) record nothing { output = other_bytes }
     ∷ example (writing start (join ∷ deliver ∷ [])) record nothing { output = start_bytes ++ (join_bytes ++ deliver_bytes) }
     -- a byte missing, another mark, no known kind or pace
     ∷ example (reading (0x48 ∷ 0x47 ∷ 0x01 ∷ []) 2) (refused 15 0 [])
@@ -450,6 +467,9 @@ notices =
     example (notice (Ok record { cut = false; end = Ok tt })) record nothing { output = [] }
     ∷ example (notice (Ok record { cut = true; end = Err record { order = 12; fault = Refused BeatDue } }))
     record nothing { output = text (codes "<!-- cut -->" ∷ codes "<!-- refused order 12 number 11 -->" ∷ []) }
+    ∷ example (notice (Ok record { cut = true; end = Ok tt })) record nothing { output = text (codes "<!-- cut -->" ∷ []) }
+    ∷ example (notice (Ok record { cut = false; end = Err record { order = 0; fault = Refused NoSlot } }))
+    record nothing { output = text (codes "<!-- refused order 0 number 12 -->" ∷ []) }
     ∷ example (notice (Err record { byte = 23; number = 14 })) record nothing { output = text (codes "refused byte 23 number 14" ∷ []) }
     ∷ []
 
