@@ -26,8 +26,7 @@ fn main(rt: HostRuntime) -> io::Result<ExitCode> {
         .take(TEXT_BYTES as u64 + 1)
         .read_to_end(&mut text)?;
     if text.len() > TEXT_BYTES {
-        rt.stderr()
-            .write_all(b"refused number 12: the text has more than 1,048,576 bytes\n")?;
+        rt.stderr().write_all(b"refused number 12: the text has more than 1,048,576 bytes\n")?;
         return Ok(ExitCode::FAILURE);
     }
     let mut orders = vec![in heap; Order::default(); ORDER_SLOTS]?;
