@@ -27,7 +27,7 @@ use Rattle.orders.specs.declared.order.Order.{Order}
 use Rattle.orders.specs.declared.order.OrderKind.TheVariants.{Wait}
 use Rattle.orders.specs.declared.start.Start.{Start}
 use Rattle.orders.specs.Faults.{fault_number}
-use Rattle.orders.specs.Loading.{Loaded, loaded}
+use Rattle.orders.specs.Loading.{loaded}
 use Rattle.orders.specs.Writing.{bytes_of_file}
 use Rattle.player.specs.declared.notices.PlayedFile.{PlayedFile}
 use Rattle.player.specs.declared.notices.RefusedFile.{RefusedFile}

@@ -8,7 +8,7 @@ use Rattle.protocol.specs.declared.call.Call.TheVariants.{Tick, Deliver, Lose, C
 use Rattle.protocol.specs.declared.happening.Happening.{Happening}
 use Rattle.protocol.specs.declared.happening.HappeningKind.TheVariants.{Sent}
 use Rattle.protocol.specs.declared.kind.GroupKind.{GroupKind}
-use Rattle.protocol.specs.declared.kind.GroupKind.TheVariants.{Closed, Expanding, Dynamic}
+use Rattle.protocol.specs.declared.kind.GroupKind.TheVariants.{Dynamic}
 use Rattle.protocol.specs.declared.party.Party.{Party}
 use Rattle.protocol.specs.declared.party.Roll.TheVariants.{On}
 use Rattle.protocol.specs.declared.party.Stage.TheVariants.{In}
