@@ -1,8 +1,10 @@
 -- What a whole file comes to: what is printed of it, and what the lent slots and bytes then hold.
 use Rattle.std.specs.Prelude.{◌≡◌, ℕ, zero, suc, not, List, [], ◌++◌, length, drop, Ok, Err, Result}
 use Rattle.pace.specs.Meaning.{Meaning}
-use Rattle.pace.specs.Waits.{halving, phases, capped}
-use Rattle.pace.specs.Questions.{limits_no, count_no}
+use Rattle.pace.specs.Limits.{limits_no}
+use Rattle.pace.specs.Halving.{halving}
+use Rattle.pace.specs.TwoPhase.{phases}
+use Rattle.pace.specs.Cap.{capped, count_no}
 use Rattle.protocol.specs.declared.happening.Happening.{Happening}
 use Rattle.protocol.specs.declared.plan.Plan.{Plan}
 use Rattle.protocol.specs.Group.{opened}
@@ -29,9 +31,13 @@ abbrev pub waits_of : PaceKind → ℕ → ℕ → List ℕ
 waits_of Halving tmin tmax = halving tmin tmax
 waits_of TwoPhase tmin tmax = phases 63 tmin tmax
 
+-- the pace that a file asks for, without its cap
+abbrev pub asked_pace : Start → Meaning
+asked_pace s = record { tmin = s.tmin; tmax = s.tmax; waits = waits_of s.pace s.tmin s.tmax }
+
 -- the pace that a file asks for, under its cap
 abbrev pub pace_of : Start → Meaning
-pace_of s = capped s.cap (record { tmin = s.tmin; tmax = s.tmax; waits = waits_of s.pace s.tmin s.tmax })
+pace_of s = capped s.cap (asked_pace s)
 
 -- the number of a question, or where it is answered yes what the later ones come to
 abbrev pub or_else : ℕ → ℕ → ℕ

@@ -1,12 +1,10 @@
--- tmax, then tmin n times.
-use Rattle.std.specs.Prelude.{◌≡◌, ℕ, zero, suc, ◌<◌, ◌≤◌, length, replicate, Some, None, ◌≢◌, slice_index, slice_index_or, refl}
-use Rattle.std.proofs.Common.{ap, ◌∙◌, arith}
-use Rattle.std.specs.List.{slice_get}
+-- The law of paces, for the pace in two phases.
+use Rattle.std.specs.Prelude.{◌≡◌, ℕ, zero, suc, ◌<◌, ◌≤◌, length, replicate, slice_index, slice_index_or, refl}
+use Rattle.std.proofs.Common.{arith}
 use Rattle.std.proofs.lemmas.List.{length-replicate, get_or-replicate}
-use Rattle.std.proofs.lemmas.Option.{slice_get-get_or, slice_get_past}
 use Rattle.pace.specs.declared.limits.Limits.{Limits}
-use Rattle.pace.specs.Meaning.{Lawful}
-use Rattle.pace.specs.Waits.{between, phases}
+use Rattle.pace.specs.Meaning.{Lawful, between}
+use Rattle.pace.specs.TwoPhase.{phases}
 
 pub phases_lawful : (l : Limits) (n : ℕ) → n ≤ 63 → Lawful (between l (phases n l.tmin l.tmax))
 phases_lawful l n h = record {
@@ -30,13 +28,3 @@ phases_lawful l n h = record {
 -- 64 waits are as many as a pace may have
 pub two_phase_lawful : (l : Limits) → Lawful (between l (phases 63 l.tmin l.tmax))
 two_phase_lawful l = phases_lawful l 63 (omega arith)
-
--- the waits after the first
-pub nth_phases : (n tmin tmax k : ℕ) → (k ≢ 0) → k < suc n → slice_get (phases n tmin tmax) k ≡ Some tmin
-nth_phases n tmin tmax zero a b = absurd (a refl)
-nth_phases n tmin tmax (suc k) a b =
-    let e = length-replicate n tmin in
-    slice_get-get_or (replicate n tmin) k 0 (omega arith) ∙ ap Some (get_or-replicate n k tmin 0 (omega arith))
-
-pub nth_phases_past : (n tmin tmax k : ℕ) → suc n ≤ k → slice_get (phases n tmin tmax) k ≡ None
-nth_phases_past n tmin tmax k h = let e = length-replicate n tmin in slice_get_past (phases n tmin tmax) k (omega arith)

@@ -1,13 +1,12 @@
--- Waits to which every question is answered yes.
+-- The law of paces, for listed waits to which every question is answered yes.
 use Rattle.std.specs.Prelude.{◌≡◌, ℕ, ◌<◌, ◌≤◌, Bool, true, ◌&&◌, List, length, nat_le, slice_index}
 use Rattle.std.proofs.Common.{arith}
 use Rattle.std.proofs.lemmas.List.Elements.{All-get_or}
 use Rattle.std.proofs.lemmas.List.Sums.{AllPass-from_list_all}
 use Rattle.std.proofs.lemmas.Bool.Decides.{nat_tests}
 use Rattle.pace.specs.declared.limits.Limits.{Limits}
-use Rattle.pace.specs.Meaning.{Lawful}
-use Rattle.pace.specs.Questions.{all_within, waits_no}
-use Rattle.pace.specs.Waits.{between}
+use Rattle.pace.specs.Meaning.{Lawful, between}
+use Rattle.pace.specs.Listed.{all_within, waits_no}
 
 -- each wait lies within the limits
 pub within_each : (tmin tmax : ℕ) (ws : List ℕ) → all_within tmin tmax ws ≡ true → (k : ℕ) → k < length ws → (tmin ≤ slice_index ws k) × (slice_index ws k ≤ tmax)
