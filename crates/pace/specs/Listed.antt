@@ -11,4 +11,5 @@ all_within tmin tmax ws = list_all (λ w. nat_le tmin w && nat_le w tmax) ws
 -- limits?
 abbrev pub waits_no : ℕ → ℕ → List ℕ → ℕ
 waits_no tmin tmax ws =
-    cond (countable (length ws)) (cond (slice_index ws 0 == tmax) (cond (all_within tmin tmax ws) 0 4) 3) 2
+    cond (countable (length ws))
+    (cond (slice_index ws 0 == tmax) (cond (all_within tmin tmax ws) 0 4) 3) 2

@@ -13,7 +13,8 @@ use Rattle.orders.specs.declared.fault.ReadFault.{ReadFault}
 use Rattle.orders.specs.declared.order.Order.{Order}
 use Rattle.orders.specs.declared.start.Start.{Start}
 use Rattle.orders.specs.Loading.{Loaded, loaded}
-use Rattle.player.specs.Program.{pace_of, or_else, cap_and_plan_no, set_up_no, NotPlayed, SetUp, Read, FileOutcome}
+use Rattle.player.specs.FilePace.{pace_of}
+use Rattle.player.specs.Program.{or_else, cap_and_plan_no, set_up_no, NotPlayed, SetUp, Read, FileOutcome}
 
 -- no refusal has number 0
 some_number : (e : Refusal) → (k : ℕ) × (number e ≡ suc k)

@@ -2,8 +2,7 @@
 ghost use Rattle.std.specs.Prelude.{◌≡◌};
 ghost use Rattle.pace.specs.Answers.{Answered, NothingToKeep};
 ghost use Rattle.pace.specs.Limits.{limits_no};
-ghost use Rattle.player.specs.Program.{asked_pace};
-ghost use Rattle.player.specs.FilePace.{meaning_of};
+ghost use Rattle.player.specs.FilePace.{asked_pace, meaning_of};
 ghost use Rattle.player.specs.laws.FilePace.{file_pace_lawful};
 
 use orders::start::{PaceKind, Start};

@@ -12,8 +12,9 @@ module _ (next : ℕ → ℕ) (falls : (w : ℕ) → next w ≤ w) where
   few true zero tmin w = omega arith
   few true (suc most) tmin w = omega (arith, few (nat_le tmin (next w)) most tmin (next w))
 
-  each : (go : Bool) (most tmin w : ℕ) → (go ≡ true → tmin ≤ w) → (k : ℕ) → k < length (falling next go most tmin w)
-      → (tmin ≤ slice_index (falling next go most tmin w) k) × (slice_index (falling next go most tmin w) k ≤ w)
+  each : (go : Bool) (most tmin w : ℕ) → (go ≡ true → tmin ≤ w) →
+      (k : ℕ) → k < length (falling next go most tmin w) →
+      (tmin ≤ slice_index (falling next go most tmin w) k) × (slice_index (falling next go most tmin w) k ≤ w)
   each false most tmin w at k h = absurd (omega arith)
   each true zero tmin w at k h = absurd (omega arith)
   each true (suc most) tmin w at zero h = (at refl, omega arith)

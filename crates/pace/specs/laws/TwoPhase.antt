@@ -6,7 +6,7 @@ use Rattle.pace.specs.declared.limits.Limits.{Limits}
 use Rattle.pace.specs.Meaning.{Lawful, between}
 use Rattle.pace.specs.TwoPhase.{phases}
 
-pub phases_lawful : (l : Limits) (n : ℕ) → n ≤ 63 → Lawful (between l (phases n l.tmin l.tmax))
+phases_lawful : (l : Limits) (n : ℕ) → n ≤ 63 → Lawful (between l (phases n l.tmin l.tmax))
 phases_lawful l n h = record {
   low = l.low;
   ordered = l.ordered;
@@ -18,7 +18,8 @@ phases_lawful l n h = record {
   roof = λ k b. (each k b).1;
 }
   where
-    each : (k : ℕ) → k < length (phases n l.tmin l.tmax) → (l.tmin ≤ slice_index (phases n l.tmin l.tmax) k) × (slice_index (phases n l.tmin l.tmax) k ≤ l.tmax)
+    each : (k : ℕ) → k < length (phases n l.tmin l.tmax) →
+        (l.tmin ≤ slice_index (phases n l.tmin l.tmax) k) × (slice_index (phases n l.tmin l.tmax) k ≤ l.tmax)
     each zero b = (l.ordered, omega arith)
     each (suc k) b =
         let e = length-replicate n l.tmin in
