@@ -23,10 +23,8 @@ impl FilePace {
     /// The pace that a file's start record asks for. Of its questions only that on the limits is
     /// put; the cap is set, and asked about, where the group is opened.
     pub fn new(start: Start) -> Result<FilePace, Refusal>
-        ensures {
-            Answered (limits_no start.tmin start.tmax) result
-            (λ pace. meaning_of pace ≡ asked_pace start) NothingToKeep
-        }
+        ensures { Answered (limits_no start.tmin start.tmax) result
+            (λ pace. meaning_of pace ≡ asked_pace start) NothingToKeep }
     {
         let limits = Limits::new(start.tmin, start.tmax)?;
         Ok(match start.pace {

@@ -14,7 +14,7 @@ within_each : (tmin tmax : ℕ) (ws : List ℕ) → all_within tmin tmax ws ≡ 
 within_each tmin tmax ws e k h =
     let p : ℕ → Bool = λ w. nat_le tmin w && nat_le w tmax in
     let at : p (slice_index ws k) ≡ true =
-        All-get_or (λ w. p w ≡ true) ws k 0 h (AllPass-from_list_all p ws e) in
+    All-get_or (λ w. p w ≡ true) ws k 0 h (AllPass-from_list_all p ws e) in
     (grind (arith, nat_tests), grind (arith, nat_tests))
 
 pub allowed_lawful : (l : Limits) (ws : List ℕ) → waits_no l.tmin l.tmax ws ≡ 0 →
