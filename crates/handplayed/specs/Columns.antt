@@ -1,7 +1,9 @@
 -- What an example gives, and what the rules make of it: the columns of the table.
 use Rattle.std.specs.Prelude.{ℕ, cond, List, [], ◌∷◌, map, length, take, replicate, sum, Some, None, Ok, Err, Option, Result, ◌==◌}
 use Rattle.pace.specs.Meaning.{Meaning}
-use Rattle.pace.specs.Questions.{limits_no, count_no, waits_no}
+use Rattle.pace.specs.Limits.{limits_no}
+use Rattle.pace.specs.Cap.{count_no}
+use Rattle.pace.specs.Listed.{waits_no}
 use Rattle.slots.specs.declared.refusal.Refusal.{Refusal as ListRefusal}
 use Rattle.slots.specs.Refusals.{number as list_number}
 use Rattle.slots.specs.Slots.{append_answer, first_place}

@@ -2,7 +2,8 @@
 use Rattle.std.specs.Prelude.{ℕ, zero, suc, ◌-◌, false, List, [], ◌∷◌, ◌++◌, replicate, Some, None}
 use Rattle.std.proofs.Common.{lit≤}
 use Rattle.pace.specs.Meaning.{Meaning}
-use Rattle.pace.specs.Waits.{halving, phases}
+use Rattle.pace.specs.Halving.{halving}
+use Rattle.pace.specs.TwoPhase.{phases}
 use Rattle.protocol.specs.declared.call.Call.{Call}
 use Rattle.protocol.specs.declared.call.Call.TheVariants.{Tick, Deliver, Lose, Crash, Join, Leave}
 use Rattle.protocol.specs.declared.happening.Happening.{Happening}

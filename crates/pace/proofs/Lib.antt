@@ -1,1 +1,3 @@
-pub mod Laws
+pub mod Sums
+pub mod HalvingPace
+pub mod TwoPhasePace

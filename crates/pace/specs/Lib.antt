@@ -1,9 +1,9 @@
 pub mod Answers
-pub mod Questions
+pub mod Limits
 pub mod Meaning
-pub mod Waits
-pub mod Fronts
-pub mod Halves
 pub mod Falling
-pub mod Allowed
-pub mod Phases
+pub mod Halving
+pub mod TwoPhase
+pub mod Listed
+pub mod Cap
+pub mod laws

@@ -1,5 +1,6 @@
 -- What a pace means, and what every pace has to show of it.
-use Rattle.std.specs.Prelude.{◌≡◌, ℕ, ◌<◌, ◌≤◌, List, length, slice_index, slice_index_or}
+use Rattle.std.specs.Prelude.{◌≡◌, ℕ, ◌<◌, ◌≤◌, Bool, ◌&&◌, List, length, nat_le, slice_index, slice_index_or}
+use Rattle.pace.specs.declared.limits.Limits.{Limits}
 
 -- the limits and the waits of a pace, in ticks
 pub record Meaning : Type 0 where
@@ -17,3 +18,11 @@ pub record Lawful (m : Meaning) : Type 0 where
   pub first : slice_index_or m.waits 0 0 ≡ m.tmax
   pub floor : (k : ℕ) → k < length m.waits → m.tmin ≤ slice_index m.waits k
   pub roof : (k : ℕ) → k < length m.waits → slice_index m.waits k ≤ m.tmax
+
+-- these waits between these limits
+abbrev pub between : Limits → List ℕ → Meaning
+between l ws = record { tmin = l.tmin; tmax = l.tmax; waits = ws }
+
+-- is the number of waits 1 to 64?
+abbrev pub countable : ℕ → Bool
+countable m = nat_le 1 m && nat_le m 64

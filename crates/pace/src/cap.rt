@@ -1,9 +1,8 @@
 // The first m waits of a pace, or all when it has fewer.
 ghost use Rattle.std.specs.Prelude.{◌≡◌, ◌≤◌};
 ghost use Rattle.pace.specs.Answers.{Answered};
-ghost use Rattle.pace.specs.Questions.{count_no};
-ghost use Rattle.pace.specs.Waits.{capped};
-ghost use Rattle.pace.specs.Fronts.{capped_lawful};
+ghost use Rattle.pace.specs.Cap.{capped, count_no};
+ghost use Rattle.pace.specs.laws.Cap.{capped_lawful};
 
 use crate::limits::Limits;
 use crate::meaning::Pace;

@@ -1,7 +1,8 @@
 // tmax, then half the wait before it, while that is at least tmin.
 ghost use Rattle.std.specs.Prelude.{◌≡◌, ◌-◌, length};
-ghost use Rattle.pace.specs.Waits.{between, halving, Largest, LengthsApart};
-ghost use Rattle.pace.specs.Halves.{halving_lawful};
+ghost use Rattle.pace.specs.Meaning.{between};
+ghost use Rattle.pace.specs.Halving.{halving, Largest, LengthsApart};
+ghost use Rattle.pace.specs.laws.Halving.{halving_lawful};
 
 use crate::limits::Limits;
 use crate::meaning::Pace;

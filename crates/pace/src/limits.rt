@@ -1,7 +1,7 @@
 // A pair of limits, in ticks.
 ghost use Rattle.std.specs.Prelude.{◌≡◌, ◌≤◌};
 ghost use Rattle.pace.specs.Answers.{Answered, NothingToKeep};
-ghost use Rattle.pace.specs.Questions.{limits_no};
+ghost use Rattle.pace.specs.Limits.{limits_no};
 
 use crate::refusal::Refusal;
 

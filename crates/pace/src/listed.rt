@@ -1,9 +1,9 @@
 // Waits that the caller lists.
 ghost use Rattle.std.specs.Prelude.{◌≡◌, [], ◌∷◌};
 ghost use Rattle.pace.specs.Answers.{Answered};
-ghost use Rattle.pace.specs.Questions.{waits_no, all_within};
-ghost use Rattle.pace.specs.Waits.{between};
-ghost use Rattle.pace.specs.Allowed.{allowed_lawful};
+ghost use Rattle.pace.specs.Meaning.{between};
+ghost use Rattle.pace.specs.Listed.{waits_no, all_within};
+ghost use Rattle.pace.specs.laws.Listed.{allowed_lawful};
 
 use crate::limits::Limits;
 use crate::meaning::Pace;

@@ -1,7 +1,8 @@
 // tmax once, then tmin 63 times.
 ghost use Rattle.std.specs.Prelude.{◌≡◌};
-ghost use Rattle.pace.specs.Waits.{between, phases};
-ghost use Rattle.pace.specs.Phases.{two_phase_lawful};
+ghost use Rattle.pace.specs.Meaning.{between};
+ghost use Rattle.pace.specs.TwoPhase.{phases};
+ghost use Rattle.pace.specs.laws.TwoPhase.{two_phase_lawful};
 
 use crate::limits::Limits;
 use crate::meaning::Pace;

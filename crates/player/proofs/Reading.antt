@@ -1,22 +1,20 @@
 -- A file that is read, from its bytes to the group that it asks for.
 use Rattle.std.proofs.Common.{◌≡◌, ℕ, suc, List, [], ◌++◌, Result, sym, refl, ap, ◌∙◌, subst, subst₂}
-use Rattle.pace.specs.declared.limits.Limits.{Limits}
 use Rattle.pace.specs.declared.refusal.Refusal.{Refusal}
 use Rattle.pace.specs.declared.refusal.Refusal.TheVariants.{BadLimits, BadCount, BadFirst, BadWait}
 use Rattle.pace.specs.Answers.{number}
 use Rattle.pace.specs.Meaning.{Meaning}
-use Rattle.pace.specs.Questions.{limits_no}
-use Rattle.pace.specs.Waits.{between, capped}
+use Rattle.pace.specs.Limits.{limits_no}
 use Rattle.slots.specs.declared.SlotList.{SlotList}
 use Rattle.slots.specs.Slots.{items, spare}
 use Rattle.slots.proofs.Growing.{whole}
 use Rattle.protocol.specs.declared.happening.Happening.{Happening}
 use Rattle.orders.specs.declared.fault.ReadFault.{ReadFault}
 use Rattle.orders.specs.declared.order.Order.{Order}
-use Rattle.orders.specs.declared.start.PaceKind.{PaceKind}
 use Rattle.orders.specs.declared.start.Start.{Start}
 use Rattle.orders.specs.Loading.{Loaded, loaded}
-use Rattle.player.specs.Program.{waits_of, pace_of, or_else, cap_and_plan_no, set_up_no, NotPlayed, SetUp, Read, FileOutcome}
+use Rattle.player.specs.FilePace.{pace_of}
+use Rattle.player.specs.Program.{or_else, cap_and_plan_no, set_up_no, NotPlayed, SetUp, Read, FileOutcome}
 
 -- no refusal has number 0
 some_number : (e : Refusal) → (k : ℕ) × (number e ≡ suc k)
@@ -24,13 +22,6 @@ some_number BadLimits = (0, refl)
 some_number BadCount = (1, refl)
 some_number BadFirst = (2, refl)
 some_number BadWait = (3, refl)
-
--- the pace that the file asks for, from its limits
-pub pace_is : (s : Start) (l : Limits) (k : PaceKind) → s.pace ≡ k → l.tmin ≡ s.tmin → l.tmax ≡ s.tmax →
-    capped s.cap (between l (waits_of k l.tmin l.tmax)) ≡ pace_of s
-pace_is s l k e a b =
-    let of : PaceKind → ℕ → ℕ → Meaning = λ p i j. capped s.cap (record { tmin = i; tmax = j; waits = waits_of p i j }) in
-    ap (λ p. of p l.tmin l.tmax) (sym e) ∙ ap (λ i. of s.pace i l.tmax) a ∙ ap (λ j. of s.pace s.tmin j) b
 
 module _ (s : Start) (orders : List Order) (hs hs' : List Happening) (out out' : List ℕ) (bytes : ℕ) (lines : List ℕ) where
   -- the limits are refused

@@ -4,3 +4,5 @@ pub mod Example
 pub mod Faults
 pub mod Told
 pub mod Program
+pub mod FilePace
+pub mod laws

@@ -1,8 +1,8 @@
 -- What a whole file comes to: what is printed of it, and what the lent slots and bytes then hold.
 use Rattle.std.specs.Prelude.{◌≡◌, ℕ, zero, suc, not, List, [], ◌++◌, length, drop, Ok, Err, Result}
 use Rattle.pace.specs.Meaning.{Meaning}
-use Rattle.pace.specs.Waits.{halving, phases, capped}
-use Rattle.pace.specs.Questions.{limits_no, count_no}
+use Rattle.pace.specs.Limits.{limits_no}
+use Rattle.pace.specs.Cap.{count_no}
 use Rattle.protocol.specs.declared.happening.Happening.{Happening}
 use Rattle.protocol.specs.declared.plan.Plan.{Plan}
 use Rattle.protocol.specs.Group.{opened}
@@ -10,8 +10,6 @@ use Rattle.protocol.specs.Plans.{parties_no}
 use Rattle.protocol.specs.Promise.{KeepsTheRules}
 use Rattle.orders.specs.declared.fault.ReadFault.{ReadFault}
 use Rattle.orders.specs.declared.order.Order.{Order}
-use Rattle.orders.specs.declared.start.PaceKind.{PaceKind}
-use Rattle.orders.specs.declared.start.PaceKind.TheVariants.{Halving, TwoPhase}
 use Rattle.orders.specs.declared.start.Start.{Start}
 use Rattle.orders.specs.Faults.{fault_number}
 use Rattle.orders.specs.Loading.{loaded}
@@ -21,17 +19,9 @@ use Rattle.graphml.specs.Answer.{refusal_number, exported}
 use Rattle.graphml.specs.Shown.{ShowsTheRun}
 use Rattle.text.specs.declared.line_bytes.LineBytes.{LineBytes}
 use Rattle.text.specs.Lines.{AnsweredAs}
+use Rattle.player.specs.FilePace.{pace_of}
 use Rattle.player.specs.Playing.{Stop, Playing, plays, RunOf}
 use Rattle.player.specs.Notices.{refused_line, cut_line, stop_line}
-
--- the waits of each pace that a file may ask for
-abbrev pub waits_of : PaceKind → ℕ → ℕ → List ℕ
-waits_of Halving tmin tmax = halving tmin tmax
-waits_of TwoPhase tmin tmax = phases 63 tmin tmax
-
--- the pace that a file asks for, under its cap
-abbrev pub pace_of : Start → Meaning
-pace_of s = capped s.cap (record { tmin = s.tmin; tmax = s.tmax; waits = waits_of s.pace s.tmin s.tmax })
 
 -- the number of a question, or where it is answered yes what the later ones come to
 abbrev pub or_else : ℕ → ℕ → ℕ

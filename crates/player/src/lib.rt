@@ -2,6 +2,7 @@
 #![tactic(auto)]
 
 pub mod fault;
+pub mod file_pace;
 pub mod notices;
 pub mod opening;
 pub mod play;

@@ -1,6 +1,6 @@
 // The group that a file asks for.
 ghost use Rattle.std.specs.Prelude.{◌≡◌, ◌↔◌, IfOk, IfErr, IsOk};
-ghost use Rattle.pace.specs.Waits.{capped};
+ghost use Rattle.pace.specs.Cap.{capped};
 ghost use Rattle.protocol.specs.Group.{opened};
 ghost use Rattle.player.specs.Faults.{TellsOfNoRecord};
 ghost use Rattle.player.specs.Program.{cap_and_plan_no};

@@ -1,22 +1,20 @@
 // All that the program does between its input and its output.
 ghost use Rattle.std.specs.Prelude.{◌≤◌, length};
-ghost use Rattle.pace.specs.Waits.{capped};
+ghost use Rattle.pace.specs.Cap.{capped};
 ghost use Rattle.slots.specs.Slots.{items};
 ghost use Rattle.player.specs.Told.{bytes_told, lines_told};
 ghost use Rattle.player.specs.Program.{cap_and_plan_no, SetUp, FileOutcome, FileRun};
 
 use crate::fault::FileFault;
+use crate::file_pace::FilePace;
 use crate::notices::{PlayedFile, RefusedFile, notices};
 use crate::opening::open;
 use crate::play::play;
 use graphml::export::export;
 use orders::load::load;
 use orders::order::Order;
-use orders::start::{PaceKind, Start};
+use orders::start::Start;
 use pace::Pace;
-use pace::halving::Halving;
-use pace::limits::Limits;
-use pace::two_phase::TwoPhase;
 use protocol::happening::Happening;
 use slots::SlotList;
 use text::line_bytes::LineBytes;
@@ -52,7 +50,7 @@ pub fn run_file(
     }
 }
 
-// The whole file is read before anything is asked of the limits. A group holds its pace by value, so each pace has an arm and a group of its own type.
+// The whole file is read before anything is asked of the limits.
 fn read_and_play(
     input: &[u8],
     order_slots: &mut [Order],
@@ -64,11 +62,8 @@ fn read_and_play(
 {
     let mut orders = SlotList::new(order_slots);
     let start = load(input, &mut orders)?;
-    let limits = Limits::new(start.tmin, start.tmax)?;
-    match start.pace {
-        PaceKind::Halving => play_at(Halving::new(limits), start, &orders, log_slots, out),
-        PaceKind::TwoPhase => play_at(TwoPhase::new(limits), start, &orders, log_slots, out),
-    }
+    let pace = FilePace::new(start)?;
+    play_at(pace, start, &orders, log_slots, out)
 }
 
 // The group that the file asks for is opened, the orders are played, and then the run is exported.

@@ -5,11 +5,8 @@
 use group::Group;
 use orders::load::load;
 use orders::order::Order;
-use orders::start::{PaceKind, Start};
-use pace::Pace;
-use pace::halving::Halving;
-use pace::limits::Limits;
-use pace::two_phase::TwoPhase;
+use orders::start::Start;
+use player::file_pace::FilePace;
 use player::sizes::{INPUT_BYTES, LOG_SLOTS, ORDER_SLOTS};
 use protocol::happening::Happening;
 use protocol::plan::Plan;
@@ -18,13 +15,10 @@ use slots::timed::Timed;
 use std::io;
 use std::io::Read;
 
-// Answers the clock at which the ticks ended; a refused one ends them too.
-fn tick_one_by_one<P: Pace + Drop>(
-    pace: P,
-    plan: Plan,
-    until: u32,
-    slots: &mut [Happening],
-) -> u32 {
+// Answers the clock at which the ticks ended; a refused one ends them too. None where the limits or the plan are refused.
+fn tick_to(start: Start, until: u32, slots: &mut [Happening]) -> Option<u32> {
+    let pace = FilePace::new(start).ok()?;
+    let plan = Plan::new(start.kind, start.parties).ok()?;
     let mut log = SlotList::new(slots);
     let mut group = Group::open(pace, plan);
     for _ in 0..until {
@@ -32,17 +26,7 @@ fn tick_one_by_one<P: Pace + Drop>(
             break;
         }
     }
-    group.clock()
-}
-
-// None where the limits or the plan are refused. A group holds its pace by value, so each pace has an arm.
-fn tick_to(start: Start, until: u32, slots: &mut [Happening]) -> Option<u32> {
-    let limits = Limits::new(start.tmin, start.tmax).ok()?;
-    let plan = Plan::new(start.kind, start.parties).ok()?;
-    Some(match start.pace {
-        PaceKind::Halving => tick_one_by_one(Halving::new(limits), plan, until, slots),
-        PaceKind::TwoPhase => tick_one_by_one(TwoPhase::new(limits), plan, until, slots),
-    })
+    Some(group.clock())
 }
 
 fn main(rt: HostRuntime) -> io::Result<()> {

@@ -11,11 +11,8 @@ use crate::task::TASK;
 use crate::walk::walk;
 use orders::load::load;
 use orders::order::Order;
-use orders::start::PaceKind;
-use pace::halving::Halving;
-use pace::limits::Limits;
-use pace::two_phase::TwoPhase;
 use player::fault::FileFault;
+use player::file_pace::FilePace;
 use player::notices::notices;
 use player::opening::open;
 use player::sizes::{INPUT_BYTES, ORDER_SLOTS};
@@ -23,19 +20,15 @@ use slots::SlotList;
 use std::io;
 use std::io::{Read, Write};
 
-// Reads a schedule into the list, and plays it at the pace that it asks for. A group holds its pace by value, so each pace has an arm.
+// Reads a schedule into the list, and plays it at the pace that it asks for.
 fn read_and_walk(
     rt: &HostRuntime,
     bytes: &[u8],
     list: &mut SlotList<'_, Order>,
 ) -> Result<io::Result<()>, FileFault> {
     let start = load(bytes, list)?;
-    let limits = Limits::new(start.tmin, start.tmax)?;
-    let orders = list.as_slice();
-    Ok(match start.pace {
-        PaceKind::Halving => walk(rt, open(Halving::new(limits), start)?, orders),
-        PaceKind::TwoPhase => walk(rt, open(TwoPhase::new(limits), start)?, orders),
-    })
+    let group = open(FilePace::new(start)?, start)?;
+    Ok(walk(rt, group, list.as_slice()))
 }
 
 // Plays a schedule; one that is refused is told as `runfile` tells it.

@@ -1,6 +1,6 @@
 use Rattle.std.proofs.Common.{◌≡◌, ◌^◌, sum, arith, rules, tests}
 use Rattle.std.proofs.lemmas.Iterator.Consumers.{fits_from_yields_list, sum_from_yields_List}
-use Rattle.pace.proofs.Laws.{sum_small, gives_waits}
+use Rattle.pace.proofs.Sums.{sum_small, gives_waits}
 use Rattle.pace.proofs.total.total.Goals as goal
 
 pub sum-requires-clause-fits : goal.sum-requires-clause-fits

@@ -1,8 +1,8 @@
 use Rattle.std.proofs.Common.{◌≡◌, ℕ, List, Err, Result, sym, refl, ap, ◌∙◌, subst, arith, rules}
 use Rattle.std.proofs.lemmas.Result.{err_from_is_err_and}
 use Rattle.pace.specs.Meaning.{Meaning}
-use Rattle.pace.specs.Waits.{capped}
-use Rattle.pace.specs.Fronts.{capped_lawful}
+use Rattle.pace.specs.Cap.{capped}
+use Rattle.pace.specs.laws.Cap.{capped_lawful}
 use Rattle.slots.specs.Slots.{items}
 use Rattle.protocol.specs.declared.happening.Happening.{Happening}
 use Rattle.protocol.specs.Group.{opened}

@@ -1,5 +1,5 @@
 use Rattle.std.proofs.Common.{arith}
-use Rattle.pace.specs.Halves.{bits_ordered, told_reach, told_short}
+use Rattle.pace.proofs.HalvingPace.{bits_ordered, told_reach, told_short}
 use Rattle.pace.proofs.halving.HalvingPace.rounds.Goals as goal
 
 pub overflow_sub-d : goal.overflow_sub-d

@@ -1,6 +1,6 @@
 use Rattle.std.proofs.Common.{rules, tests}
 use Rattle.std.proofs.lemmas.Option.{slice_get_past}
-use Rattle.pace.specs.Halves.{nth_halving}
+use Rattle.pace.proofs.HalvingPace.{nth_halving}
 use Rattle.pace.proofs.halving.HalvingPace.wait.Goals as goal
 
 pub returns : goal.returns

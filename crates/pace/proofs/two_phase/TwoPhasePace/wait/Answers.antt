@@ -1,5 +1,5 @@
 use Rattle.std.proofs.Common.{arith, rules}
-use Rattle.pace.specs.Phases.{nth_phases, nth_phases_past}
+use Rattle.pace.proofs.TwoPhasePace.{nth_phases, nth_phases_past}
 use Rattle.pace.proofs.two_phase.TwoPhasePace.wait.Goals as goal
 
 pub returns-in-1-to-63 : goal.returns-in-1-to-63

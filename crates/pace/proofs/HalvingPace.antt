@@ -7,9 +7,8 @@ use Rattle.std.specs.List.{slice_get}
 use Rattle.std.proofs.lemmas.Bool.{le-leb, lt-leb, cases_lt}
 use Rattle.std.proofs.lemmas.Option.{slice_get-get_or}
 use Rattle.pace.specs.declared.limits.Limits.{Limits}
-use Rattle.pace.specs.Meaning.{Lawful}
-use Rattle.pace.specs.Waits.{between, falling, halving, Largest, LengthsApart}
-use Rattle.pace.specs.Falling.{falling_lawful}
+use Rattle.pace.specs.Falling.{falling}
+use Rattle.pace.specs.Halving.{halving, Largest, LengthsApart}
 
 -- the wait at place m is the last that is at least tmin
 record Last (tmin w m : ℕ) : Type 0 where
@@ -135,10 +134,6 @@ module _ (l : Limits) where
   shape_of : (m : ℕ) → Last l.tmin l.tmax m → Shape (halving l.tmin l.tmax) l.tmax m
   unfolding halving
   shape_of m last = shape 64 l.tmin l.tmax m (omega (arith, last_small m last)) last
-
-  pub halving_lawful : Lawful (between l (halving l.tmin l.tmax))
-  unfolding halving
-  halving_lawful = falling_lawful (λ w. w / 2) (λ w. omega arith) l 63 (omega arith)
 
   pub nth_halving : (k : ℕ) → k < length (halving l.tmin l.tmax) → slice_get (halving l.tmin l.tmax) k ≡ Some (l.tmax / 2 ^ k)
   nth_halving k h =

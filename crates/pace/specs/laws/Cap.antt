@@ -1,9 +1,9 @@
--- The first m waits of a lawful pace.
+-- The law of paces, for a lawful pace under a cap.
 use Rattle.std.specs.Prelude.{ℕ, ◌≤◌}
 use Rattle.std.proofs.Common.{◌∙◌, arith}
 use Rattle.std.proofs.lemmas.List.{length-take, get_or-take}
 use Rattle.pace.specs.Meaning.{Meaning, Lawful}
-use Rattle.pace.specs.Waits.{capped}
+use Rattle.pace.specs.Cap.{capped}
 
 pub capped_lawful : (m : ℕ) (p : Meaning) → 1 ≤ m → Lawful p → Lawful (capped m p)
 capped_lawful m p h law = record {

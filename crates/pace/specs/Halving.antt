@@ -1,0 +1,21 @@
+-- The pace by halving, and what is said of the number of its waits.
+use Rattle.std.specs.Prelude.{◌≡◌, ℕ, ◌+◌, ◌-◌, ◌*◌, ◌/◌, ◌^◌, ◌≤◌, true, ◌⊎◌, List}
+use Rattle.std.specs.Int.Count.{count_leading_zeros}
+use Rattle.pace.specs.Falling.{falling}
+
+-- tmax, then half the wait before it, fraction dropped, while that is at least tmin
+unfoldable pub halving : ℕ → ℕ → List ℕ
+halving tmin tmax = falling (λ w. w / 2) true 64 tmin tmax
+
+-- k is the largest number with tmin * 2 ^ k at most tmax
+abbrev pub Largest : ℕ → ℕ → ℕ → Type 0
+Largest tmin tmax k = (tmin * 2 ^ k ≤ tmax) × ((j : ℕ) → tmin * 2 ^ j ≤ tmax → j ≤ k)
+
+-- the length of a number in bits
+abbrev pub bit_length : ℕ → ℕ
+bit_length x = 32 - count_leading_zeros 32 x
+
+-- k is the difference of the two lengths in bits, or one less
+abbrev pub LengthsApart : ℕ → ℕ → ℕ → Type 0
+LengthsApart tmin tmax k =
+    (bit_length tmin + k ≡ bit_length tmax) ⊎ (bit_length tmin + k + 1 ≡ bit_length tmax)
