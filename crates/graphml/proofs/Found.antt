@@ -13,13 +13,16 @@ use Rattle.graphml.specs.Cut.{kept}
 use Rattle.graphml.specs.Body.{is_owned, is_arrived, is_arrival, arrival_edge, lines_of, happenings_of, edges_from, parties_from, body}
 use Rattle.graphml.specs.Numbers.{Each}
 use Rattle.graphml.specs.Answer.{in_frame}
-use Rattle.graphml.specs.Closing.{Content, empty, element as holds, Closes}
-use Rattle.graphml.specs.Reading.{Entry, Item, happened, joined, each_in, happening_of, place_of, edge_of, party_item, parties_read, keys_read, happening_keys, graphs_read}
+use Rattle.markup.specs.Closing.{Content, empty, element as holds, Closes}
+use Rattle.graphml.specs.Reading.{Entry, Item, happened, joined, happening_of, place_of, edge_of, party_item, parties_read, keys_read, happening_keys, graphs_read}
 use Rattle.graphml.specs.Log.{entry, entries, items_from, items_of, numbers, all_read}
+use Rattle.markup.specs.Reading.{each_in}
+use Rattle.markup.proofs.Nesting.{fed}
+use Rattle.markup.proofs.Back.{same_bytes, number_decimal}
 use Rattle.graphml.proofs.Scanned.{node_attrs, edge_attrs}
 use Rattle.graphml.proofs.Shapes.{chosen, kept_each}
-use Rattle.graphml.proofs.Growing.{Framed, fed, put, frame_grown}
-use Rattle.graphml.proofs.Told.{things, read, same_bytes, number_decimal}
+use Rattle.graphml.proofs.Growing.{Framed, put, frame_grown}
+use Rattle.graphml.proofs.Told.{things, read}
 
 lines_framed : (pick : Happening → Bool) (tag : ℕ → Happening → Tag) → ((k : ℕ) (h : Happening) → Framed (tag k h)) → (k : ℕ) (hs : List Happening) → Each Framed (lines_of pick tag k hs)
 lines_framed pick tag f k [] = tt

@@ -5,9 +5,11 @@ use Rattle.protocol.specs.declared.happening.Happening.{Happening}
 use Rattle.graphml.specs.Texts.{head, tail, node_line, node_end, graph_line, graph_end, happening_line, edge_line}
 use Rattle.graphml.specs.Elements.{Tag, Forest, none, element, run, node, graph, happened, edge, render}
 use Rattle.graphml.specs.Answer.{in_frame}
-use Rattle.graphml.specs.Marks.{Attribute, Mark, starts, stops, spoken, marks}
-use Rattle.graphml.specs.Closing.{Content, empty, words, element as holds, Opened, grown, sole, document, tree}
-use Rattle.graphml.proofs.Scanned.{line, attr, directed, four, node_attrs, graph_attrs, edge_attrs, happening_attrs, node_read, graph_read, edge_read, happening_read}
+use Rattle.markup.specs.Marks.{Attribute, Mark, starts, stops, spoken, marks}
+use Rattle.markup.specs.Closing.{Content, empty, element as holds, Opened, grown, sole, document, tree}
+use Rattle.markup.proofs.Joined.{four}
+use Rattle.markup.proofs.Nesting.{line, attr, fed, said, grown_said, at}
+use Rattle.graphml.proofs.Scanned.{directed, node_attrs, graph_attrs, edge_attrs, happening_attrs, node_read, graph_read, edge_read, happening_read}
 use Rattle.graphml.specs.Numbers.{Each}
 
 -- no frame stands within
@@ -17,14 +19,6 @@ Framed (node i) = Unit {0}
 Framed (graph i) = Unit {0}
 Framed (happened k h) = Unit {0}
 Framed (edge a b) = Unit {0}
-
--- after a line feed
-abbrev pub fed : Content → Content
-fed c = words c (10 ∷ [])
-
-abbrev pub said : Content → List ℕ → Content
-said c [] = c
-said c (b ∷ t) = words c (b ∷ t)
 
 abbrev pub datum_in : Content → List ℕ → List ℕ → Content
 datum_in c key t = holds c (codes "data") (attr (codes "key") key ∷ []) (said empty t)
@@ -40,15 +34,6 @@ put c (element (node x) i a) = put (holds (fed c) (codes "node") (node_attrs x) 
 put c (element (graph x) i a) = put (holds (fed c) (codes "graph") (graph_attrs x) (fed (put empty i))) a
 put c (element (happened k h) i a) = put (put (holds (fed c) (codes "node") (happening_attrs k) (happening_data h)) i) a
 put c (element (edge k l) i a) = put (put (holds (fed c) (codes "edge") (edge_attrs k l) empty) i) a
-
-grown_said : (os : List Opened) (c : Content) (t : List ℕ) (ms : List Mark) → grown os c (spoken t ++ ms) ≡ grown os (said c t) ms
-grown_said [] c [] ms = refl
-grown_said (o ∷ os) c [] ms = refl
-grown_said [] c (b ∷ t) ms = refl
-grown_said (o ∷ os) c (b ∷ t) ms = refl
-
-abbrev at : Content → List ℕ → List Attribute → Opened
-at c n xs = record { before = c; name = n; attributes = xs }
 
 pub forest_grown : (f : Forest) → Each Framed f → (o : Opened) (os : List Opened) (c : Content) (rest : List ℕ) → grown (o ∷ os) c (line (render f ++ rest)) ≡ grown (o ∷ os) (put c f) (line rest)
 forest_grown none h o os c rest = refl

@@ -6,7 +6,6 @@ mod Steps
 mod Party
 mod Whole
 mod Ending
-pub mod Digits
 pub mod Scanned
 pub mod Shapes
 pub mod Growing

@@ -12,7 +12,7 @@ use Rattle.graphml.specs.declared.answer.Refusal.{Refusal}
 use Rattle.graphml.specs.declared.answer.Refusal.TheVariants.{LogDiffers}
 use Rattle.graphml.specs.Cut.{EndsAt}
 use Rattle.graphml.specs.Body.{body}
-use Rattle.graphml.specs.Closing.{Closes}
+use Rattle.markup.specs.Closing.{Closes}
 use Rattle.graphml.specs.Log.{ShowsTheLog}
 use Rattle.graphml.specs.Answer.{in_frame, exported, written}
 use Rattle.graphml.specs.Export.{export_answer, export_bytes}

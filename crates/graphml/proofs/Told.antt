@@ -1,14 +1,10 @@
 -- What is read of a forest: its happenings and its edges in the order in which they are begun.
-use Rattle.std.proofs.Common.{◌≡◌, ℕ, ◌+◌, ◌-◌, ◌^◌, ◌<◌, true, leb, List, [], ◌∷◌, ◌++◌, length, take, codes, decimal, Some, Option, bytes_eq, refl, sym, ap, ◌∙◌, subst, append_assoc, append-nil, length-append, eq-eqb, rules, arith, ⊎_elim}
-use Rattle.std.specs.Str.{all_ascii_digits}
+use Rattle.std.proofs.Common.{◌≡◌, ℕ, ◌+◌, ◌-◌, ◌^◌, ◌<◌, leb, List, [], ◌∷◌, ◌++◌, length, take, codes, decimal, Some, Option, refl, sym, ap, ◌∙◌, subst, append_assoc, append-nil, length-append, arith, ⊎_elim}
 use Rattle.std.specs.List.{flat_map}
 use Rattle.std.proofs.Math.Seq.{take-append_seam}
 use Rattle.std.proofs.lemmas.Bool.{cases_Bool}
 use Rattle.std.proofs.lemmas.Grind.{flat_map-append}
-use Rattle.std.proofs.lemmas.Str.Parse.{IsNumeralModel, numerals_by_fold}
-use Rattle.std.proofs.lemmas.Fmt.{digits_value-decimal}
 use Rattle.std.proofs.lemmas.List.{map-append}
-use Rattle.text.specs.Numeral.{read_on}
 use Rattle.protocol.specs.Words.{word}
 use Rattle.protocol.specs.declared.happening.Happening.{Happening}
 use Rattle.protocol.specs.declared.happening.HappeningKind.{HappeningKind}
@@ -19,17 +15,17 @@ use Rattle.graphml.specs.Cut.{size, cost, kept, all_fits}
 use Rattle.graphml.specs.Counts.{count, is_happening, is_edge}
 use Rattle.graphml.specs.Numbers.{Each, Fits}
 use Rattle.graphml.specs.Answer.{in_frame}
-use Rattle.graphml.specs.Marks.{Attribute}
-use Rattle.graphml.specs.Closing.{Content, empty, element as holds}
-use Rattle.graphml.specs.Reading.{Item, happened, joined, number, kind_named, text_in, happening_told, each_in, graph_item, node_items, run_items, items_read, edge_of}
+use Rattle.markup.specs.Marks.{Attribute}
+use Rattle.markup.specs.Closing.{Content, empty, element as holds}
+use Rattle.markup.specs.Reading.{each_in}
+use Rattle.markup.proofs.Nesting.{fed}
+use Rattle.markup.proofs.Back.{same_bytes, said_back, number_decimal}
+use Rattle.graphml.specs.Reading.{Item, happened, joined, kind_named, happening_told, graph_item, node_items, run_items, items_read, edge_of}
 use Rattle.graphml.specs.Log.{entry, all_read}
 use Rattle.graphml.proofs.Scanned.{node_attrs, graph_attrs, edge_attrs, happening_attrs}
 use Rattle.graphml.proofs.Shapes.{in_run, in_node, in_graph, Shaped}
-use Rattle.graphml.proofs.Growing.{Framed, fed, said, happening_data, put, framed, frame_grown}
+use Rattle.graphml.proofs.Growing.{Framed, happening_data, put, framed, frame_grown}
 use Rattle.graphml.proofs.Forests.{kept_stop, kept_cut, kept_on}
-
-own : IsNumeralModel (λ ds. all_ascii_digits ds ≡ true) (read_on 0)
-own = numerals_by_fold _ (search rules) read_on (search rules)
 
 pub kind_back : (k : HappeningKind) → kind_named (word k) ≡ Some k
 kind_back Sent = refl
@@ -42,17 +38,6 @@ kind_back Stopped = refl
 kind_back Left = refl
 kind_back Joining = refl
 kind_back Leaving = refl
-
-pub same_bytes : (bs : List ℕ) → bytes_eq bs bs ≡ true
-same_bytes [] = refl
-same_bytes (b ∷ bs) = rw (eq-eqb b b refl) (same_bytes bs)
-
-pub number_decimal : (n : ℕ) → n < 2 ^ 64 → number (decimal n) ≡ Some n
-number_decimal n h = rw (digits_value-decimal own n h, same_bytes (decimal n)) refl
-
-said_back : (t : List ℕ) → text_in (said empty t) ≡ t
-said_back [] = refl
-said_back (b ∷ t) = refl
 
 -- what an element tells, standing with party i, and with whom stands what is inside it
 abbrev pub mark : ℕ → Tag → List Item

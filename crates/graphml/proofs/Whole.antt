@@ -15,7 +15,7 @@ use Rattle.graphml.specs.Cut.{all_fits}
 use Rattle.graphml.specs.Body.{body}
 use Rattle.graphml.specs.Counts.{count, is_happening, is_edge}
 use Rattle.graphml.specs.Numbers.{Each, Fits}
-use Rattle.graphml.specs.Closing.{Closes}
+use Rattle.markup.specs.Closing.{Closes}
 use Rattle.graphml.specs.Reading.{Item, items_read, happening_of, place_of, places_read, edge_of, edges_read, parties_read}
 use Rattle.protocol.specs.Order.{OwnedUpTo}
 use Rattle.graphml.specs.Log.{items_of, times, HasBothEnds, all_read, ShowsTheLog}

@@ -12,7 +12,7 @@ use Rattle.graphml.specs.declared.answer.Exported.{Exported}
 use Rattle.graphml.specs.declared.answer.Refusal.{Refusal}
 use Rattle.graphml.specs.Cut.{EndsAt}
 use Rattle.graphml.specs.Body.{body}
-use Rattle.graphml.specs.Closing.{Closes}
+use Rattle.markup.specs.Closing.{Closes}
 use Rattle.graphml.specs.Reading.{edges_read, places_read}
 use Rattle.graphml.specs.Log.{ShowsTheLog, HasBothEnds, times, all_read}
 use Rattle.graphml.specs.Answer.{in_frame, exported, written}

@@ -4,7 +4,7 @@ ghost use Rattle.slots.specs.Slots.{items};
 ghost use Rattle.protocol.specs.Views.{play};
 ghost use Rattle.graphml.specs.Cut.{EndsAt};
 ghost use Rattle.graphml.specs.Body.{body};
-ghost use Rattle.graphml.specs.Closing.{Closes};
+ghost use Rattle.markup.specs.Closing.{Closes};
 ghost use Rattle.graphml.specs.Log.{ShowsTheLog};
 ghost use Rattle.graphml.specs.Answer.{in_frame};
 ghost use Rattle.graphml.specs.Export.{export_answer, export_bytes};

@@ -2,7 +2,7 @@
 ghost use Rattle.std.specs.Prelude.{◌≡◌, ◌-◌, true, false, length, take, IfOk};
 ghost use Rattle.graphml.specs.Cut.{EndsAt};
 ghost use Rattle.graphml.specs.Body.{body};
-ghost use Rattle.graphml.specs.Closing.{Closes};
+ghost use Rattle.markup.specs.Closing.{Closes};
 ghost use Rattle.graphml.specs.Log.{ShowsTheLog};
 ghost use Rattle.graphml.specs.Answer.{in_frame, written, exported};
 

@@ -1,0 +1,4 @@
+pub mod Digits
+pub mod Joined
+pub mod Nesting
+pub mod Back

@@ -1,0 +1,4 @@
+pub mod Marks
+pub mod Closing
+pub mod Reading
+pub mod Samples
