@@ -1,6 +1,5 @@
 pub mod Texts
 pub mod Elements
-pub mod Cut
 pub mod Body
 pub mod Counts
 pub mod Numbers

@@ -1,3 +1,5 @@
+pub mod Kept
+pub mod Ending
 pub mod Digits
 pub mod Joined
 pub mod Nesting

@@ -1,3 +1,5 @@
+pub mod Forests
+pub mod Cut
 pub mod Marks
 pub mod Closing
 pub mod Reading
