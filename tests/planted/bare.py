@@ -5,7 +5,7 @@ import pathlib
 import re
 
 # the crates whose definitions the worked examples read, and the crate of the examples
-CRATES = ["pace", "slots", "protocol", "text", "graphml", "orders", "player", "handplayed"]
+CRATES = ["pace", "slots", "protocol", "text", "markup", "graphml", "orders", "player", "handplayed"]
 # files of specs/ with lemmas that ghost members cite
 LEMMAS = ["Fronts", "Halves", "Falling", "Allowed", "Phases"]
 STRING = re.compile(r'b?"(?:[^"\\]|\\.)*"')

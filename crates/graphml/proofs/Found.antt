@@ -8,18 +8,21 @@ use Rattle.protocol.specs.declared.happening.Happening.{Happening}
 use Rattle.protocol.specs.declared.happening.HappeningKind.{HappeningKind}
 use Rattle.protocol.specs.declared.happening.HappeningKind.TheVariants.{Sent, Arrived, Lost, Enrolled, Struck, Crashed, Stopped, Left, Joining, Leaving}
 use Rattle.protocol.specs.Beats.{Edge, edges, edge as arc, is_arrival as arrives}
-use Rattle.graphml.specs.Elements.{Tag, Forest, none, element, graph, happened as tag_happened, edge as tag_edge}
-use Rattle.graphml.specs.Cut.{kept}
+use Rattle.graphml.specs.Elements.{spelling, Tag, graph, happened as tag_happened, edge as tag_edge}
 use Rattle.graphml.specs.Body.{is_owned, is_arrived, is_arrival, arrival_edge, lines_of, happenings_of, edges_from, parties_from, body}
-use Rattle.graphml.specs.Numbers.{Each}
 use Rattle.graphml.specs.Answer.{in_frame}
-use Rattle.graphml.specs.Closing.{Content, empty, element as holds, Closes}
-use Rattle.graphml.specs.Reading.{Entry, Item, happened, joined, each_in, happening_of, place_of, edge_of, party_item, parties_read, keys_read, happening_keys, graphs_read}
+use Rattle.markup.specs.Closing.{Content, empty, element as holds, Closes}
+use Rattle.graphml.specs.Reading.{Entry, Item, happened, joined, happening_of, place_of, edge_of, party_item, parties_read, keys_read, happening_keys, graphs_read}
 use Rattle.graphml.specs.Log.{entry, entries, items_from, items_of, numbers, all_read}
+use Rattle.markup.specs.Reading.{each_in}
+use Rattle.markup.proofs.Nesting.{fed}
+use Rattle.markup.proofs.Back.{same_bytes, number_decimal}
 use Rattle.graphml.proofs.Scanned.{node_attrs, edge_attrs}
-use Rattle.graphml.proofs.Shapes.{chosen, kept_each}
-use Rattle.graphml.proofs.Growing.{Framed, fed, put, frame_grown}
-use Rattle.graphml.proofs.Told.{things, read, same_bytes, number_decimal}
+use Rattle.graphml.proofs.Growing.{Framed, put, frame_grown}
+use Rattle.graphml.proofs.Told.{things, read}
+use Rattle.markup.proofs.Kept.{chosen, kept_each}
+use Rattle.markup.specs.Cut.{kept}
+use Rattle.markup.specs.Forests.{Forest, none, element, Each}
 
 lines_framed : (pick : Happening → Bool) (tag : ℕ → Happening → Tag) → ((k : ℕ) (h : Happening) → Framed (tag k h)) → (k : ℕ) (hs : List Happening) → Each Framed (lines_of pick tag k hs)
 lines_framed pick tag f k [] = tt
@@ -36,8 +39,8 @@ pub body_framed : (log : List Happening) (n : ℕ) → Each Framed (body log n)
 body_framed log n = parties_framed log 0 (n + 1)
 
 -- what is written of the body closes
-pub part_closes : (log : List Happening) (n room : ℕ) → Closes (in_frame (kept room (body log n)))
-part_closes log n room = rw (frame_grown (kept room (body log n)) (kept_each Framed room (body log n) (body_framed log n))) refl
+pub part_closes : (log : List Happening) (n room : ℕ) → Closes (in_frame (kept spelling room (body log n)))
+part_closes log n room = rw (frame_grown (kept spelling room (body log n)) (kept_each spelling Framed room (body log n) (body_framed log n))) refl
 
 same_test : (kind : HappeningKind) → is_arrived kind ≡ arrives kind
 same_test Sent = refl
@@ -54,7 +57,7 @@ same_test Leaving = refl
 happenings_are : (i k : ℕ) (hs : List Happening) → things i (happenings_of i k hs) ≡ map (happened i) (entries i k hs)
 happenings_are i k [] = refl
 happenings_are i k (h ∷ hs) =
-    let after : Forest = happenings_of i (k + 1) hs in
+    let after : Forest Tag = happenings_of i (k + 1) hs in
     let rest : List Entry = entries i (k + 1) hs in
     elim (h.owner == i) as (λ (b : Bool). things i (cond b (element (tag_happened k h) none after) after) ≡ map (happened i) (cond b (entry k h ∷ rest) rest)) [
       | true ↦ ap (λ (l : List Item). happened i (entry k h) ∷ l) (happenings_are i (k + 1) hs)
@@ -154,7 +157,7 @@ happenings_found n log i h = found i log 0 (n + 1) (omega arith) (omega arith)
 none_in_edges : (k : ℕ) (hs : List Happening) (c : Content) → each_in party_item (put c (edges_from k hs)) ≡ each_in party_item c
 none_in_edges k [] c = refl
 none_in_edges k (h ∷ hs) c =
-    let after : Forest = edges_from (k + 1) hs in
+    let after : Forest Tag = edges_from (k + 1) hs in
     elim (is_arrival h) as (λ (b : Bool). each_in party_item (put c (cond b (element (tag_edge h.link k) none after) after)) ≡ each_in party_item c) [
       | true ↦ none_in_edges (k + 1) hs (holds (fed c) (codes "edge") (edge_attrs h.link k) empty) ∙ append-nil (each_in party_item c)
       | false ↦ none_in_edges (k + 1) hs c
@@ -175,10 +178,10 @@ unfolding parties_read
 parties_found log n p = rw (frame_grown (body log n) (body_framed log n)) (each_seen log 0 (n + 1) empty (omega arith))
 
 -- the keys and the one graph, whatever that holds
-pub keys_found : (f : Forest) → Each Framed f → keys_read (in_frame f) ≡ happening_keys
+pub keys_found : (f : Forest Tag) → Each Framed f → keys_read (in_frame f) ≡ happening_keys
 unfolding keys_read
 keys_found f h = rw (frame_grown f h) refl
 
-pub graphs_found : (f : Forest) → Each Framed f → graphs_read (in_frame f) ≡ codes "run" ∷ []
+pub graphs_found : (f : Forest Tag) → Each Framed f → graphs_read (in_frame f) ≡ codes "run" ∷ []
 unfolding graphs_read
 graphs_found f h = rw (frame_grown f h) refl

@@ -5,8 +5,6 @@ mod Loops
 mod Steps
 mod Party
 mod Whole
-mod Ending
-pub mod Digits
 pub mod Scanned
 pub mod Shapes
 pub mod Growing

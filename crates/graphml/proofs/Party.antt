@@ -1,18 +1,19 @@
 -- A party that is begun, as far as it fits.
 use Rattle.std.proofs.Common.{◌≡◌, ℕ, ◌+◌, ◌^◌, ◌<◌, ◌≤◌, true, false, List, length, sym, refl, ap, ◌∙◌, subst, arith}
 use Rattle.protocol.specs.declared.happening.Happening.{Happening}
-use Rattle.graphml.specs.Elements.{Forest, none, element, node, graph}
+use Rattle.graphml.specs.Elements.{Tag, spelling, node, graph}
 use Rattle.graphml.specs.Body.{happenings_of, party_then}
 use Rattle.graphml.specs.Texts.{node_end, graph_end, node_line, graph_line}
 use Rattle.graphml.specs.State.{State, Sound, wrote, opened, drawn, has_room}
-use Rattle.graphml.specs.Cut.{kept}
-use Rattle.graphml.specs.Numbers.{Each, Fits}
-use Rattle.graphml.proofs.Forests.{stops, framed, kept_stop}
-use Rattle.graphml.proofs.Shapes.{each_begun}
+use Rattle.graphml.specs.Numbers.{Fits}
+use Rattle.graphml.proofs.Forests.{stops, framed}
 use Rattle.graphml.proofs.Sounds.{sound_opened}
+use Rattle.markup.proofs.Kept.{kept_stop, each_begun}
+use Rattle.markup.specs.Cut.{kept}
+use Rattle.markup.specs.Forests.{Forest, none, element, Each}
 
 module _ {s n : State} (i : ℕ) (hs : List Happening) (h : Sound s 20) (p : true ≡ has_room s (node_line i) 8) (e : n ≡ opened s (node_line i) 8) where
-  abbrev inner : Forest
+  abbrev inner : Forest Tag
   inner = element (graph i) (happenings_of i 0 hs) none
 
   abbrev o : State
@@ -36,16 +37,16 @@ module _ {s n : State} (i : ℕ) (hs : List Happening) (h : Sound s 20) (p : tru
       k ∙ ap (λ t. wrote t node_end) (g ∙ ap (λ t. wrote t graph_end) (d ∙ ap (λ t. drawn t (happenings_of i 0 hs)) b) ∙ sym z) ∙ sym begun
 
   -- what fits of what is inside the node
-  node_numbers : i < 2 ^ 64 → Each Fits (kept o.room inner) → Each Fits (kept s.room (party_then hs i none))
-  node_numbers small inside = each_begun Fits s.room (node i) inner (sym p) small inside
+  node_numbers : i < 2 ^ 64 → Each Fits (kept spelling o.room inner) → Each Fits (kept spelling s.room (party_then hs i none))
+  node_numbers small inside = each_begun spelling Fits s.room (node i) inner (sym p) small inside
 
-  pub no_graph_numbers : i < 2 ^ 64 → false ≡ has_room n (graph_line i) 9 → Each Fits (kept s.room (party_then hs i none))
+  pub no_graph_numbers : i < 2 ^ 64 → false ≡ has_room n (graph_line i) 9 → Each Fits (kept spelling s.room (party_then hs i none))
   no_graph_numbers small q =
-      node_numbers small (subst (Each Fits) (sym (kept_stop o.room (graph i) (happenings_of i 0 hs) none (sym (q ∙ ap (λ t. has_room t (graph_line i) 9) e)))) tt)
+      node_numbers small (subst (Each Fits) (sym (kept_stop spelling o.room (graph i) (happenings_of i 0 hs) none (sym (q ∙ ap (λ t. has_room t (graph_line i) 9) e)))) tt)
 
-  pub all_numbers : {u : State} → i < 2 ^ 64 → true ≡ has_room n (graph_line i) 9 → u ≡ opened n (graph_line i) 9 → Each Fits (kept u.room (happenings_of i 0 hs)) → Each Fits (kept s.room (party_then hs i none))
+  pub all_numbers : {u : State} → i < 2 ^ 64 → true ≡ has_room n (graph_line i) 9 → u ≡ opened n (graph_line i) 9 → Each Fits (kept spelling u.room (happenings_of i 0 hs)) → Each Fits (kept spelling s.room (party_then hs i none))
   all_numbers {u} small q f inside =
       let b = f ∙ ap (λ t. opened t (graph_line i) 9) e in
       node_numbers small
-      (each_begun Fits o.room (graph i) (happenings_of i 0 hs) (sym (q ∙ ap (λ t. has_room t (graph_line i) 9) e)) tt
-      (subst (λ (t : State). Each Fits (kept t.room (happenings_of i 0 hs))) b inside))
+      (each_begun spelling Fits o.room (graph i) (happenings_of i 0 hs) (sym (q ∙ ap (λ t. has_room t (graph_line i) 9) e)) tt
+      (subst (λ (t : State). Each Fits (kept spelling t.room (happenings_of i 0 hs))) b inside))

@@ -3,29 +3,11 @@ use Rattle.std.proofs.Common.{◌≡◌, ℕ, List, [], ◌∷◌, ◌++◌, cod
 use Rattle.protocol.specs.Words.{word}
 use Rattle.protocol.specs.declared.happening.Happening.{Happening}
 use Rattle.graphml.specs.Texts.{node_line, graph_line, happening_line, edge_line}
-use Rattle.graphml.specs.Marks.{Attribute, Mark, starts, stops, stands, says, text, valued, spoken, scan}
-use Rattle.graphml.proofs.Digits.{value_on, text_on, decimal_plain, word_plain}
-
-abbrev pub feed : Mark
-feed = says (10 ∷ [])
-
--- past a line feed
-abbrev pub line : List ℕ → List Mark
-line rest = scan (text (10 ∷ [])) rest
-
-abbrev pub attr : List ℕ → List ℕ → Attribute
-attr k v = record { key = k; value = v }
-
--- the parts of a line, and of an element, one after another
-pub four : (a b c d rest : List ℕ) → (a ++ b ++ c ++ d) ++ rest ≡ a ++ (b ++ (c ++ (d ++ rest)))
-four a b c d rest = append_assoc (a ++ b ++ c) d rest ∙ append_assoc (a ++ b) c (d ++ rest) ∙ append_assoc a b (c ++ (d ++ rest))
-
-seven : (a b c d e f rest : List ℕ) → (a ++ b ++ c ++ d ++ e ++ f) ++ rest ≡ a ++ (b ++ (c ++ (d ++ (e ++ (f ++ rest)))))
-seven a b c d e f rest = append_assoc (a ++ b ++ c ++ d ++ e) f rest ∙ append_assoc (a ++ b ++ c ++ d) e (f ++ rest) ∙ four a b c d (e ++ (f ++ rest))
-
--- past a number in a value
-value_past : (n k : List ℕ) (xs : List Attribute) (v : List ℕ) (i : ℕ) (rest : List ℕ) → scan (valued n xs k v) (decimal i ++ rest) ≡ scan (valued n xs k (v ++ decimal i)) rest
-value_past n k xs v i rest = value_on n k xs v (decimal i) rest (decimal_plain i)
+use Rattle.markup.specs.Marks.{Attribute, Mark, starts, stops, stands, spoken}
+use Rattle.markup.proofs.Digits.{text_on, decimal_plain, value_past}
+use Rattle.markup.proofs.Nesting.{feed, line, attr}
+use Rattle.markup.proofs.Joined.{four, seven}
+use Rattle.graphml.proofs.Words.{word_plain}
 
 abbrev pub fed : List Mark → List Mark
 fed ms = feed ∷ ms

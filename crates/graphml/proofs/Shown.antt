@@ -10,13 +10,14 @@ use Rattle.protocol.proofs.Own.{own_log}
 use Rattle.graphml.specs.declared.answer.Exported.{Exported}
 use Rattle.graphml.specs.declared.answer.Refusal.{Refusal}
 use Rattle.graphml.specs.declared.answer.Refusal.TheVariants.{LogDiffers}
-use Rattle.graphml.specs.Cut.{EndsAt}
 use Rattle.graphml.specs.Body.{body}
-use Rattle.graphml.specs.Closing.{Closes}
+use Rattle.markup.specs.Closing.{Closes}
 use Rattle.graphml.specs.Log.{ShowsTheLog}
 use Rattle.graphml.specs.Answer.{in_frame, exported, written}
 use Rattle.graphml.specs.Export.{export_answer, export_bytes}
 use Rattle.graphml.specs.Shown.{ShowsTheDeliveries, ShowsTheRun}
+use Rattle.markup.specs.Cut.{EndsAt}
+use Rattle.graphml.specs.Elements.{spelling}
 
 if_ok : (r : Result Exported Refusal) (P Q : Exported → Type 0) → ((x : Exported) → P x → Q x) → IfOk r P → IfOk r Q
 if_ok (Ok x) P Q f h = f x h
@@ -40,7 +41,7 @@ pub shows :
     (m : Meaning) (plan : Plan) (room : ℕ) (steps : List Step) (s : Play) (out out' : List ℕ) (r : Result Exported Refusal) (p : Plan) → p ≡ plan →
     KeepsTheRules m plan room steps s → r ≡ export_answer s p.n (length out) → out' ≡ export_bytes s p.n out →
     IfOk r (λ x. x.whole ≡ true → take x.bytes out' ≡ in_frame (body s.log p.n)) →
-    IfOk r (λ x. x.whole ≡ false → EndsAt (length out - 275) (body s.log p.n)) →
+    IfOk r (λ x. x.whole ≡ false → EndsAt spelling (length out - 275) (body s.log p.n)) →
     IfOk r (λ x. Closes (take x.bytes out')) →
     IfOk r (λ x. ShowsTheLog p.n s.log x (take x.bytes out')) →
     ShowsTheRun m plan room steps s out out' r
@@ -54,7 +55,7 @@ shows m plan room steps s out out' r p same kept answer bytes whole cut closes s
       bytes_as_defined =
           bytes ∙ ap (λ (q : Plan). export_bytes s q.n out) same ∙ ap (λ (b : Bool). cond b (written s.log plan.n out) out) mine;
       whole_as_defined = subst (λ (q : Plan). IfOk r (λ x. x.whole ≡ true → take x.bytes out' ≡ in_frame (body s.log q.n))) same whole;
-      cut_at_the_first_that_does_not_fit = subst (λ (q : Plan). IfOk r (λ x. x.whole ≡ false → EndsAt (length out - 275) (body s.log q.n))) same cut;
+      cut_at_the_first_that_does_not_fit = subst (λ (q : Plan). IfOk r (λ x. x.whole ≡ false → EndsAt spelling (length out - 275) (body s.log q.n))) same cut;
       closes = closes;
       shows_the_log = log_shown;
       shows_the_deliveries = if_ok r _ _ (λ x. deliveries_shown m plan room steps s x (take x.bytes out') kept) log_shown;

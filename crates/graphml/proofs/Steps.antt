@@ -2,11 +2,12 @@
 use Rattle.std.proofs.Common.{◌≡◌, ℕ, suc, ◌+◌, ◌-◌, ◌<◌, ◌≤◌, Bool, true, false, cond, List, length, get_or, drop, ap, ◌∙◌, arith}
 use Rattle.std.proofs.lemmas.List.{at_drop_more}
 use Rattle.protocol.specs.declared.happening.Happening.{Happening}
-use Rattle.graphml.specs.Elements.{Tag, Forest, none, element}
+use Rattle.graphml.specs.Elements.{Tag}
 use Rattle.graphml.specs.Body.{lines_of, edges_from, party_then, parties_from}
+use Rattle.markup.specs.Forests.{Forest, none, element}
 
 module _ (pick : Happening → Bool) (tag : ℕ → Happening → Tag) (k : ℕ) (hs : List Happening) (lt : k < length hs) (h : Happening) where
-  abbrev rest : Forest
+  abbrev rest : Forest Tag
   rest = lines_of pick tag (k + 1) (drop (k + 1) hs)
 
   step : {b : Bool} → pick (get_or hs k h) ≡ b → lines_of pick tag k (drop k hs) ≡ cond b (element (tag k (get_or hs k h)) none rest) rest

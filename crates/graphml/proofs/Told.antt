@@ -1,35 +1,32 @@
 -- What is read of a forest: its happenings and its edges in the order in which they are begun.
-use Rattle.std.proofs.Common.{◌≡◌, ℕ, ◌+◌, ◌-◌, ◌^◌, ◌<◌, true, leb, List, [], ◌∷◌, ◌++◌, length, take, codes, decimal, Some, Option, bytes_eq, refl, sym, ap, ◌∙◌, subst, append_assoc, append-nil, length-append, eq-eqb, rules, arith, ⊎_elim}
-use Rattle.std.specs.Str.{all_ascii_digits}
+use Rattle.std.proofs.Common.{◌≡◌, ℕ, ◌+◌, ◌-◌, ◌^◌, ◌<◌, leb, List, [], ◌∷◌, ◌++◌, length, take, codes, decimal, Some, Option, refl, sym, ap, ◌∙◌, subst, append_assoc, append-nil, length-append, arith, ⊎_elim}
 use Rattle.std.specs.List.{flat_map}
 use Rattle.std.proofs.Math.Seq.{take-append_seam}
 use Rattle.std.proofs.lemmas.Bool.{cases_Bool}
 use Rattle.std.proofs.lemmas.Grind.{flat_map-append}
-use Rattle.std.proofs.lemmas.Str.Parse.{IsNumeralModel, numerals_by_fold}
-use Rattle.std.proofs.lemmas.Fmt.{digits_value-decimal}
 use Rattle.std.proofs.lemmas.List.{map-append}
-use Rattle.text.specs.Numeral.{read_on}
 use Rattle.protocol.specs.Words.{word}
 use Rattle.protocol.specs.declared.happening.Happening.{Happening}
 use Rattle.protocol.specs.declared.happening.HappeningKind.{HappeningKind}
 use Rattle.protocol.specs.declared.happening.HappeningKind.TheVariants.{Sent, Arrived, Lost, Enrolled, Struck, Crashed, Stopped, Left, Joining, Leaving}
 use Rattle.protocol.specs.Beats.{Edge, edge as arc}
-use Rattle.graphml.specs.Elements.{Tag, Forest, none, element, run, node, graph, happened as tag_happened, edge as tag_edge}
-use Rattle.graphml.specs.Cut.{size, cost, kept, all_fits}
-use Rattle.graphml.specs.Counts.{count, is_happening, is_edge}
-use Rattle.graphml.specs.Numbers.{Each, Fits}
+use Rattle.graphml.specs.Elements.{spelling, Tag, run, node, graph, happened as tag_happened, edge as tag_edge}
+use Rattle.graphml.specs.Counts.{is_happening, is_edge}
+use Rattle.graphml.specs.Numbers.{Fits}
 use Rattle.graphml.specs.Answer.{in_frame}
-use Rattle.graphml.specs.Marks.{Attribute}
-use Rattle.graphml.specs.Closing.{Content, empty, element as holds}
-use Rattle.graphml.specs.Reading.{Item, happened, joined, number, kind_named, text_in, happening_told, each_in, graph_item, node_items, run_items, items_read, edge_of}
+use Rattle.markup.specs.Marks.{Attribute}
+use Rattle.markup.specs.Closing.{Content, empty, element as holds}
+use Rattle.markup.specs.Reading.{each_in}
+use Rattle.markup.proofs.Nesting.{fed}
+use Rattle.markup.proofs.Back.{same_bytes, said_back, number_decimal}
+use Rattle.graphml.specs.Reading.{Item, happened, joined, kind_named, happening_told, graph_item, node_items, run_items, items_read, edge_of}
 use Rattle.graphml.specs.Log.{entry, all_read}
 use Rattle.graphml.proofs.Scanned.{node_attrs, graph_attrs, edge_attrs, happening_attrs}
 use Rattle.graphml.proofs.Shapes.{in_run, in_node, in_graph, Shaped}
-use Rattle.graphml.proofs.Growing.{Framed, fed, said, happening_data, put, framed, frame_grown}
-use Rattle.graphml.proofs.Forests.{kept_stop, kept_cut, kept_on}
-
-own : IsNumeralModel (λ ds. all_ascii_digits ds ≡ true) (read_on 0)
-own = numerals_by_fold _ (search rules) read_on (search rules)
+use Rattle.graphml.proofs.Growing.{Framed, happening_data, put, framed, frame_grown}
+use Rattle.markup.proofs.Kept.{kept_stop, kept_cut, kept_on}
+use Rattle.markup.specs.Cut.{size, cost, kept, all_fits}
+use Rattle.markup.specs.Forests.{Forest, none, element, count, Each}
 
 pub kind_back : (k : HappeningKind) → kind_named (word k) ≡ Some k
 kind_back Sent = refl
@@ -42,17 +39,6 @@ kind_back Stopped = refl
 kind_back Left = refl
 kind_back Joining = refl
 kind_back Leaving = refl
-
-pub same_bytes : (bs : List ℕ) → bytes_eq bs bs ≡ true
-same_bytes [] = refl
-same_bytes (b ∷ bs) = rw (eq-eqb b b refl) (same_bytes bs)
-
-pub number_decimal : (n : ℕ) → n < 2 ^ 64 → number (decimal n) ≡ Some n
-number_decimal n h = rw (digits_value-decimal own n h, same_bytes (decimal n)) refl
-
-said_back : (t : List ℕ) → text_in (said empty t) ≡ t
-said_back [] = refl
-said_back (b ∷ t) = refl
 
 -- what an element tells, standing with party i, and with whom stands what is inside it
 abbrev pub mark : ℕ → Tag → List Item
@@ -69,7 +55,7 @@ whose i (graph x) = i
 whose i (tag_happened k h) = i
 whose i (tag_edge a b) = i
 
-abbrev pub things : ℕ → Forest → List Item
+abbrev pub things : ℕ → Forest Tag → List Item
 things i none = []
 things i (element t f a) = mark i t ++ (things (whose i t) f ++ things i a)
 
@@ -87,7 +73,7 @@ happening_seen : (i k : ℕ) (h : Happening) → k < 2 ^ 64 → h.tick < 2 ^ 64 
 happening_seen i k h p q =
     rw (said_back (decimal h.tick), said_back (word h.kind), number_decimal k p, number_decimal h.tick q, kind_back h.kind) refl
 
-in_graph_told : (i : ℕ) (f : Forest) → Shaped (in_graph i) f → Each Fits f → (c : Content) → each_in (graph_item (Some i)) (put c f) ≡ each_in (graph_item (Some i)) c ++ read (things i f)
+in_graph_told : (i : ℕ) (f : Forest Tag) → Shaped (in_graph i) f → Each Fits f → (c : Content) → each_in (graph_item (Some i)) (put c f) ≡ each_in (graph_item (Some i)) c ++ read (things i f)
 in_graph_told i none h p c = sym (append-nil (each_in (graph_item (Some i)) c))
 in_graph_told i (element run f a) h p c = absurd h.0
 in_graph_told i (element (node x) f a) h p c = absurd h.0
@@ -99,7 +85,7 @@ in_graph_told i (element (tag_happened k w) none a) h p c =
     ∙ ap (λ (x : Option Item). (each_in (graph_item (Some i)) c ++ (x ∷ [])) ++ read (things i a)) (happening_seen i k w p.0.0 p.0.1)
     ∙ joint (each_in (graph_item (Some i)) c) (happened i (entry k w) ∷ []) (things i a)
 
-in_node_told : (i : ℕ) → i < 2 ^ 64 → (f : Forest) → Shaped (in_node i) f → Each Fits f → (c : Content) → each_in (node_items (codes "p" ++ decimal i)) (put c f) ≡ each_in (node_items (codes "p" ++ decimal i)) c ++ read (things i f)
+in_node_told : (i : ℕ) → i < 2 ^ 64 → (f : Forest Tag) → Shaped (in_node i) f → Each Fits f → (c : Content) → each_in (node_items (codes "p" ++ decimal i)) (put c f) ≡ each_in (node_items (codes "p" ++ decimal i)) c ++ read (things i f)
 in_node_told i q none h p c = sym (append-nil (each_in (node_items (codes "p" ++ decimal i)) c))
 in_node_told i q (element run f a) h p c = absurd h.0
 in_node_told i q (element (node x) f a) h p c = absurd h.0
@@ -115,7 +101,7 @@ in_node_told i q (element (graph x) f a) h p c =
     ∙ ap (λ (l : List (Option Item)). (each_in g c ++ l) ++ read (things i a)) its
     ∙ joint (each_in g c) (things i f) (things i a)
 
-in_run_told : (f : Forest) → Shaped in_run f → Each Fits f → (c : Content) → each_in run_items (put c f) ≡ each_in run_items c ++ read (things 0 f)
+in_run_told : (f : Forest Tag) → Shaped in_run f → Each Fits f → (c : Content) → each_in run_items (put c f) ≡ each_in run_items c ++ read (things 0 f)
 in_run_told none h p c = sym (append-nil (each_in run_items c))
 in_run_told (element run f a) h p c = absurd h.0
 in_run_told (element (graph x) f a) h p c = absurd h.0
@@ -132,7 +118,7 @@ in_run_told (element (node x) f a) h p c =
     ∙ joint (each_in run_items c) (things x f) (things 0 a)
 
 -- a file of such a forest
-pub frame_told : (f : Forest) → Each Framed f → Shaped in_run f → Each Fits f → items_read (in_frame f) ≡ read (things 0 f)
+pub frame_told : (f : Forest Tag) → Each Framed f → Shaped in_run f → Each Fits f → items_read (in_frame f) ≡ read (things 0 f)
 unfolding items_read
 frame_told f framed h p = rw (frame_grown f framed) (in_run_told f h p empty)
 
@@ -144,7 +130,7 @@ counted i (graph x) = refl
 counted i (tag_happened k h) = refl
 counted i (tag_edge a b) = refl
 
-pub all_counted : (i : ℕ) (f : Forest) → length (things i f) ≡ count is_happening f + count is_edge f
+pub all_counted : (i : ℕ) (f : Forest Tag) → length (things i f) ≡ count is_happening f + count is_edge f
 all_counted i none = refl
 all_counted i (element t f a) =
     let l = length-append (mark i t) (things (whose i t) f ++ things i a) in
@@ -167,7 +153,7 @@ edge_counted i (graph x) = refl
 edge_counted i (tag_happened k h) = refl
 edge_counted i (tag_edge a b) = refl
 
-pub edges_counted : (i : ℕ) (f : Forest) → length (arcs (things i f)) ≡ count is_edge f
+pub edges_counted : (i : ℕ) (f : Forest Tag) → length (arcs (things i f)) ≡ count is_edge f
 edges_counted i none = refl
 edges_counted i (element t f a) =
     let l = ap (λ (es : List (Option Edge)). length es) (arcs-append (mark i t) (things (whose i t) f ++ things i a) ∙ ap (λ (es : List (Option Edge)). arcs (mark i t) ++ es) (arcs-append (things (whose i t) f) (things i a))) in
@@ -185,33 +171,33 @@ regroup a b c d = ap (λ (l : List Item). a ++ l) (sym (append_assoc b c d)) ∙
 abbrev pub StartsAs : List Item → List Item → Type 0
 StartsAs xs all = (rest : List Item) × (all ≡ xs ++ rest)
 
-pub kept_first : (i room : ℕ) (f : Forest) → StartsAs (things i (kept room f)) (things i f)
+pub kept_first : (i room : ℕ) (f : Forest Tag) → StartsAs (things i (kept spelling room f)) (things i f)
 kept_first i room none = ([], refl)
 kept_first i room (element t f a) =
-    let left : ℕ = room - size t in
+    let left : ℕ = room - size spelling t in
     ⊎_elim
     (λ x.
     ⊎_elim
     (λ y.
-    let e = kept_first i (left - cost f) a in (
+    let e = kept_first i (left - cost spelling f) a in (
       e.0,
       ap (λ (l : List Item). mark i t ++ (things (whose i t) f ++ l)) e.1
-          ∙ regroup (mark i t) (things (whose i t) f) (things i (kept (left - cost f) a)) e.0
-          ∙ ap (λ g. things i g ++ e.0) (sym (kept_on room t f a x y)),
+          ∙ regroup (mark i t) (things (whose i t) f) (things i (kept spelling (left - cost spelling f) a)) e.0
+          ∙ ap (λ g. things i g ++ e.0) (sym (kept_on spelling room t f a x y)),
     ))
     (λ y.
     let e = kept_first (whose i t) left f in (
       e.0 ++ things i a,
       ap (λ (l : List Item). mark i t ++ (l ++ things i a)) e.1
-          ∙ ap (λ (l : List Item). mark i t ++ l) (append_assoc (things (whose i t) (kept left f)) e.0 (things i a) ∙ ap (λ (l : List Item). l ++ (e.0 ++ things i a)) (sym (append-nil (things (whose i t) (kept left f)))))
-          ∙ sym (append_assoc (mark i t) (things (whose i t) (kept left f) ++ []) (e.0 ++ things i a))
-          ∙ ap (λ g. things i g ++ (e.0 ++ things i a)) (sym (kept_cut room t f a x y)),
+          ∙ ap (λ (l : List Item). mark i t ++ l) (append_assoc (things (whose i t) (kept spelling left f)) e.0 (things i a) ∙ ap (λ (l : List Item). l ++ (e.0 ++ things i a)) (sym (append-nil (things (whose i t) (kept spelling left f)))))
+          ∙ sym (append_assoc (mark i t) (things (whose i t) (kept spelling left f) ++ []) (e.0 ++ things i a))
+          ∙ ap (λ g. things i g ++ (e.0 ++ things i a)) (sym (kept_cut spelling room t f a x y)),
     ))
-    (cases_Bool (all_fits left f)))
-    (λ x. (things i (element t f a), ap (λ g. things i g ++ things i (element t f a)) (sym (kept_stop room t f a x))))
-    (cases_Bool (leb (size t) room))
+    (cases_Bool (all_fits spelling left f)))
+    (λ x. (things i (element t f a), ap (λ g. things i g ++ things i (element t f a)) (sym (kept_stop spelling room t f a x))))
+    (cases_Bool (leb (size spelling t) room))
 
-pub first_taken : (i room : ℕ) (f : Forest) → things i (kept room f) ≡ take (length (things i (kept room f))) (things i f)
+pub first_taken : (i room : ℕ) (f : Forest Tag) → things i (kept spelling room f) ≡ take (length (things i (kept spelling room f))) (things i f)
 first_taken i room f =
     let e = kept_first i room f in
-    sym (ap (take (length (things i (kept room f)))) e.1 ∙ take-append_seam (things i (kept room f)) e.0)
+    sym (ap (take (length (things i (kept spelling room f)))) e.1 ∙ take-append_seam (things i (kept spelling room f)) e.0)

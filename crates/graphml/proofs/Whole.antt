@@ -10,23 +10,24 @@ use Rattle.graphml.specs.declared.answer.Exported.{Exported}
 use Rattle.graphml.specs.declared.answer.Refusal.{Refusal}
 use Rattle.graphml.specs.declared.answer.Refusal.TheVariants.{ShortOutput}
 use Rattle.graphml.specs.Texts.{head, tail}
-use Rattle.graphml.specs.Elements.{Forest, render}
-use Rattle.graphml.specs.Cut.{all_fits}
 use Rattle.graphml.specs.Body.{body}
-use Rattle.graphml.specs.Counts.{count, is_happening, is_edge}
-use Rattle.graphml.specs.Numbers.{Each, Fits}
-use Rattle.graphml.specs.Closing.{Closes}
+use Rattle.graphml.specs.Counts.{is_happening, is_edge}
+use Rattle.graphml.specs.Numbers.{Fits}
+use Rattle.markup.specs.Closing.{Closes}
 use Rattle.graphml.specs.Reading.{Item, items_read, happening_of, place_of, places_read, edge_of, edges_read, parties_read}
 use Rattle.protocol.specs.Order.{OwnedUpTo}
 use Rattle.graphml.specs.Log.{items_of, times, HasBothEnds, all_read, ShowsTheLog}
 use Rattle.graphml.specs.Answer.{in_frame, part, over, written, summary, exported}
 use Rattle.graphml.specs.State.{State, wrote, drawn}
-use Rattle.graphml.proofs.Forests.{kept_le, kept_whole, length_render}
-use Rattle.graphml.proofs.Shapes.{in_run, kept_shaped, kept_each, body_shaped}
+use Rattle.graphml.proofs.Shapes.{in_run, kept_shaped, body_shaped}
 use Rattle.graphml.proofs.Growing.{Framed}
 use Rattle.graphml.proofs.Told.{things, frame_told, all_counted, edges_counted, first_taken}
 use Rattle.graphml.proofs.Once.{places_once, places_once_at_most, fewer, ends_found}
 use Rattle.graphml.proofs.Found.{part_closes, body_framed, body_is, edges_found, happenings_found, parties_found, keys_found, graphs_found}
+use Rattle.markup.proofs.Kept.{kept_le, kept_whole, length_render, kept_each}
+use Rattle.markup.specs.Cut.{all_fits}
+use Rattle.markup.specs.Forests.{Forest, render, count, Each}
+use Rattle.graphml.specs.Elements.{Tag, spelling}
 
 pub length_head : length head ≡ 255
 unfolding head
@@ -37,7 +38,7 @@ abbrev pub empty : ℕ → List ℕ → State
 empty lent out = record { lent = lent; bytes = out; at = 0; room = length out - 275; happenings = 0; edges = 0 }
 
 module _ (out : List ℕ) (log : List Happening) (n : ℕ) (h : 275 ≤ length out) where
-  abbrev fit : Forest
+  abbrev fit : Forest Tag
   fit = part log n (length out)
 
   abbrev text : List ℕ
@@ -53,11 +54,11 @@ module _ (out : List ℕ) (log : List Happening) (n : ℕ) (h : 275 ≤ length o
   pub finished : {lent : ℕ} {s t u : State} → s ≡ wrote (empty lent out) head → t ≡ drawn s (body log n) → u ≡ wrote t tail → Finished lent u
   finished {lent} {s} {t} {u} p q r =
       let lh = length_head in
-      let lp = length_render fit in
-      let le = kept_le (length out - 275) (body log n) in
-      let l1 = length-append head (render fit) in
-      let r1 = reached out 0 head (placed out 0 head) (0 + length head) (render fit) (omega arith) (refl, refl) in
-      let r2 = reached out 0 (head ++ render fit) _ _ tail (omega arith) r1 in
+      let lp = length_render spelling fit in
+      let le = kept_le spelling (length out - 275) (body log n) in
+      let l1 = length-append head (render spelling fit) in
+      let r1 = reached out 0 head (placed out 0 head) (0 + length head) (render spelling fit) (omega arith) (refl, refl) in
+      let r2 = reached out 0 (head ++ render spelling fit) _ _ tail (omega arith) r1 in
       subst (Finished lent) (sym (r ∙ ap (λ x. wrote x tail) (q ∙ ap (λ x. drawn x (body log n)) p))) (record {
         bytes = r2.0 ∙ ap (λ k. text ++ drop k out) (zero-add (length text));
         at = r2.1 ∙ zero-add (length text);
@@ -70,11 +71,11 @@ module _ (out : List ℕ) (log : List Happening) (n : ℕ) (h : 275 ≤ length o
   enough = le-leb 275 (length out) h
 
   abbrev done : Result Exported Refusal
-  done = Ok (summary fit (all_fits (length out - 275) (body log n)))
+  done = Ok (summary fit (all_fits spelling (length out - 275) (body log n)))
 
-  pub answered : {lent : ℕ} {s u : State} {r : Bool} → s ≡ wrote (empty lent out) head → r ≡ all_fits s.room (body log n) → Finished lent u → ◌≡◌ {A = Result Exported Refusal} (Ok (record { bytes = u.at; happenings = u.happenings; edges = u.edges; whole = r })) (exported log n (length out))
+  pub answered : {lent : ℕ} {s u : State} {r : Bool} → s ≡ wrote (empty lent out) head → r ≡ all_fits spelling s.room (body log n) → Finished lent u → ◌≡◌ {A = Result Exported Refusal} (Ok (record { bytes = u.at; happenings = u.happenings; edges = u.edges; whole = r })) (exported log n (length out))
   answered p w f =
-      let all = w ∙ ap (λ x. all_fits x.room (body log n)) p in
+      let all = w ∙ ap (λ x. all_fits spelling x.room (body log n)) p in
       ◌∙◌ {b = done} (λ i. Ok (record { bytes = f.at i; happenings = f.happenings i; edges = f.edges i; whole = all i }))
       (sym (ap (λ b. cond b done (Err ShortOutput)) enough))
 
@@ -89,11 +90,11 @@ module _ (out : List ℕ) (log : List Happening) (n : ℕ) (h : 275 ≤ length o
   closes e f = subst Closes (sym (front e f)) (part_closes log n (length out - 275))
 
   abbrev whole : Bool
-  whole = all_fits (length out - 275) (body log n)
+  whole = all_fits spelling (length out - 275) (body log n)
 
   -- all of it was written
   all_kept : whole ≡ true → fit ≡ body log n
-  all_kept w = kept_whole (length out - 275) (body log n) (leb-true _ _ w)
+  all_kept w = kept_whole spelling (length out - 275) (body log n) (leb-true _ _ w)
 
   pub whole_text : {out' : List ℕ} {k : ℕ} → whole ≡ true → out' ≡ over text out → k ≡ length text → take k out' ≡ in_frame (body log n)
   whole_text w e f = front e f ∙ ap in_frame (all_kept w)
@@ -102,7 +103,7 @@ module _ (out : List ℕ) (log : List Happening) (n : ℕ) (h : 275 ≤ length o
   module _ (small : n < 2 ^ 64) (fits : Each Fits fit) where
     told : items_read text ≡ all_read (things 0 fit)
     told =
-        frame_told fit (kept_each Framed (length out - 275) (body log n) (body_framed log n)) (kept_shaped in_run (length out - 275) (body log n) (body_shaped log n)) fits
+        frame_told fit (kept_each spelling Framed (length out - 275) (body log n) (body_framed log n)) (kept_shaped in_run (length out - 275) (body log n) (body_shaped log n)) fits
 
     first : things 0 fit ≡ take (count is_happening fit + count is_edge fit) (items_of n log)
     first = first_taken 0 (length out - 275) (body log n) ∙ (λ i. take (all_counted 0 fit i) (body_is log n i))
@@ -122,8 +123,8 @@ module _ (out : List ℕ) (log : List Happening) (n : ℕ) (h : 275 ≤ length o
       first_part = told ∙ ap all_read first;
       all_counted = ap (λ (l : List (Option Item)). length l) told ∙ length-map (things 0 fit) (λ x. Some x) ∙ all_counted 0 fit;
       edges_counted = ap (λ (l : List (Option Item)). length (flat_map edge_of l)) told ∙ edges_counted 0 fit;
-      keys = keys_found fit (kept_each Framed (length out - 275) (body log n) (body_framed log n));
-      one_graph = graphs_found fit (kept_each Framed (length out - 275) (body log n) (body_framed log n));
+      keys = keys_found fit (kept_each spelling Framed (length out - 275) (body log n) (body_framed log n));
+      one_graph = graphs_found fit (kept_each spelling Framed (length out - 275) (body log n) (body_framed log n));
       no_place_twice = λ k.
           let few = ap (λ (l : List (Option Item)). times k (flat_map place_of l)) (told ∙ ap all_read first) in
           let part = fewer k (count is_happening fit + count is_edge fit) (items_of n log) in

@@ -4,22 +4,23 @@ use Rattle.protocol.specs.declared.happening.Happening.{Happening}
 use Rattle.graphml.specs.declared.answer.Exported.{Exported}
 use Rattle.graphml.specs.declared.answer.Refusal.{Refusal}
 use Rattle.graphml.specs.declared.answer.Refusal.TheVariants.{LogDiffers, ShortOutput}
-use Rattle.graphml.specs.Elements.{Forest, run, opening, closing, render}
-use Rattle.graphml.specs.Cut.{kept, all_fits}
+use Rattle.graphml.specs.Elements.{Tag, spelling, run, opening, closing}
 use Rattle.graphml.specs.Body.{body}
-use Rattle.graphml.specs.Counts.{count, is_happening, is_edge}
+use Rattle.graphml.specs.Counts.{is_happening, is_edge}
+use Rattle.markup.specs.Cut.{kept, all_fits}
+use Rattle.markup.specs.Forests.{Forest, render, count}
 
 abbrev pub refusal_number : Refusal → ℕ
 refusal_number LogDiffers = 13
 refusal_number ShortOutput = 17
 
 -- a forest in the frame
-abbrev pub in_frame : Forest → List ℕ
-in_frame f = opening run ++ render f ++ closing run
+abbrev pub in_frame : Forest Tag → List ℕ
+in_frame f = opening run ++ render spelling f ++ closing run
 
 -- what an output of cap bytes has room for beside the frame's 275 bytes
-abbrev pub part : List Happening → ℕ → ℕ → Forest
-part log n cap = kept (cap - 275) (body log n)
+abbrev pub part : List Happening → ℕ → ℕ → Forest Tag
+part log n cap = kept spelling (cap - 275) (body log n)
 
 -- out, with its first bytes overwritten by text
 abbrev pub over : List ℕ → List ℕ → List ℕ
@@ -30,10 +31,10 @@ abbrev pub written : List Happening → ℕ → List ℕ → List ℕ
 written log n out = cond (nat_le 275 (length out)) (over (in_frame (part log n (length out))) out) out
 
 -- what is answered for a forest of which all was written, or not
-abbrev pub summary : Forest → (whole : Bool) → Exported
+abbrev pub summary : Forest Tag → (whole : Bool) → Exported
 summary f whole = record { bytes = length (in_frame f); happenings = count is_happening f; edges = count is_edge f; whole = whole }
 
 -- the answer at an output of cap bytes
 abbrev pub exported : List Happening → ℕ → ℕ → Result Exported Refusal
 exported log n cap =
-    cond (nat_le 275 cap) (Ok (summary (part log n cap) (all_fits (cap - 275) (body log n)))) (Err ShortOutput)
+    cond (nat_le 275 cap) (Ok (summary (part log n cap) (all_fits spelling (cap - 275) (body log n)))) (Err ShortOutput)

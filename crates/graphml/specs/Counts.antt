@@ -1,6 +1,6 @@
--- How many happenings and edges a forest has.
-use Rattle.std.specs.Prelude.{ℕ, ◌+◌}
-use Rattle.graphml.specs.Elements.{Tag, run, node, graph, happened, edge, Forest, none, element}
+-- What counts as a happening, and what as an edge.
+use Rattle.std.specs.Prelude.{ℕ}
+use Rattle.graphml.specs.Elements.{Tag, run, node, graph, happened, edge}
 
 abbrev pub is_happening : Tag → ℕ
 is_happening run = 0
@@ -15,7 +15,3 @@ is_edge (node i) = 0
 is_edge (graph i) = 0
 is_edge (happened k h) = 0
 is_edge (edge a b) = 1
-
-abbrev pub count : (Tag → ℕ) → Forest → ℕ
-count is none = 0
-count is (element t i a) = is t + count is i + count is a

@@ -1,6 +1,7 @@
 -- The elements of the file, and their text.
-use Rattle.std.specs.Prelude.{ℕ, List, [], ◌++◌}
+use Rattle.std.specs.Prelude.{ℕ, List, []}
 use Rattle.protocol.specs.declared.happening.Happening.{Happening}
+use Rattle.markup.specs.Forests.{Spelling}
 use Rattle.graphml.specs.Texts.{head, tail, node_line, node_end, graph_line, graph_end, happening_line, edge_line}
 
 -- what an element is: the run, a party's node, its inner graph, a happening at a place of the log, or an edge between two places
@@ -26,16 +27,6 @@ closing (graph i) = graph_end
 closing (happened k h) = []
 closing (edge a b) = []
 
--- an element, then the forest inside it, then the forest after it
-pub data Forest : Type 0 where
-  none : Forest
-  element : Tag → Forest → Forest → Forest
-
--- everything inside an element stands between its opening and its closing
-abbrev pub render : Forest → List ℕ
-render none = []
-render (element t i a) = opening t ++ render i ++ closing t ++ render a
-
--- an element with nothing inside and nothing after it
-abbrev pub one : Tag → Forest
-one t = element t none none
+-- how the elements are spelled
+abbrev pub spelling : Spelling Tag
+spelling = record { opening = opening; closing = closing }

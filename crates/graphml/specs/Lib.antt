@@ -1,11 +1,8 @@
 pub mod Texts
 pub mod Elements
-pub mod Cut
 pub mod Body
 pub mod Counts
 pub mod Numbers
-pub mod Marks
-pub mod Closing
 pub mod Reading
 pub mod Log
 pub mod Answer

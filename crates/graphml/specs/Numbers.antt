@@ -1,11 +1,6 @@
 -- The numbers in a forest's elements.
 use Rattle.std.specs.Prelude.{◌^◌, ◌<◌}
-use Rattle.graphml.specs.Elements.{Tag, run, node, graph, happened, edge, Forest, none, element}
-
--- so it is of each element
-abbrev pub Each : (Tag → Type 0) → Forest → Type 0
-Each P none = Unit {0}
-Each P (element t i a) = P t × Each P i × Each P a
+use Rattle.graphml.specs.Elements.{Tag, run, node, graph, happened, edge}
 
 -- what stands in an element's line are numbers of 64 bits
 abbrev pub Fits : Tag → Type 0

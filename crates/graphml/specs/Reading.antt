@@ -1,12 +1,12 @@
 -- The run that a GraphML reader sees in a file: its keys, its parties, their happenings and the edges.
-use Rattle.std.specs.Prelude.{ℕ, ◌==◌, ◌&&◌, Bool, true, false, List, [], ◌∷◌, ◌++◌, Some, None, Option, codes, bytes_eq, decimal, if◌then◌else◌}
+use Rattle.std.specs.Prelude.{ℕ, ◌==◌, ◌&&◌, Bool, true, false, List, [], ◌∷◌, ◌++◌, Some, None, Option, codes, bytes_eq, if◌then◌else◌}
 use Rattle.std.specs.List.{flat_map}
-use Rattle.text.specs.Numeral.{read_on}
 use Rattle.protocol.specs.declared.happening.HappeningKind.{HappeningKind}
 use Rattle.protocol.specs.declared.happening.HappeningKind.TheVariants.{Sent, Arrived, Lost, Enrolled, Struck, Crashed, Stopped, Left, Joining, Leaving}
 use Rattle.protocol.specs.Beats.{Edge, edge}
-use Rattle.graphml.specs.Marks.{Attribute}
-use Rattle.graphml.specs.Closing.{Content, empty, words, element, tree}
+use Rattle.markup.specs.Marks.{Attribute}
+use Rattle.markup.specs.Closing.{Content, tree}
+use Rattle.markup.specs.Reading.{Reader, value_at, id_of, number, numbered, each_in, text_in, sole_text, in_tree}
 
 -- a happening as a file shows it
 pub record Entry : Type 0 where
@@ -18,23 +18,6 @@ pub record Entry : Type 0 where
 pub data Item : Type 0 where
   happened : (party : ℕ) → Entry → Item
   joined : Edge → Item
-
--- the value of the attribute of that key
-abbrev pub value_at : List ℕ → List Attribute → List ℕ
-value_at k [] = []
-value_at k (a ∷ xs) = if bytes_eq a.key k then a.value else value_at k xs
-
-abbrev pub id_of : List Attribute → List ℕ
-id_of xs = value_at (codes "id") xs
-
--- a number without leading zeros
-abbrev pub number : List ℕ → Option ℕ
-number ds = if bytes_eq ds (decimal (read_on 0 ds)) then Some (read_on 0 ds) else None
-
--- the number after that letter
-abbrev pub numbered : ℕ → List ℕ → Option ℕ
-numbered letter [] = None
-numbered letter (c ∷ ds) = if c == letter then number ds else None
 
 -- i where an id is p<i>, and k where it is h<k>
 abbrev pub party_named : List ℕ → Option ℕ
@@ -55,26 +38,6 @@ kind_named t =
     (if bytes_eq t (codes "left") then Some Left else
     (if bytes_eq t (codes "joining") then Some Joining else
     (if bytes_eq t (codes "leaving") then Some Leaving else None)))))))))
-
--- what is read of an element, by its name, its attributes and what is inside it
-abbrev pub Reader : Type 0 → Type 0
-Reader A = List ℕ → List Attribute → Content → List A
-
--- what f reads of each element that stands right in c, in file order
-abbrev pub each_in : {A : Type 0} → Reader A → Content → List A
-each_in f empty = []
-each_in f (words c t) = each_in f c
-each_in f (element c n xs inside) = each_in f c ++ f n xs inside
-
--- the text right in an element
-abbrev pub text_in : Content → List ℕ
-text_in empty = []
-text_in (words c t) = text_in c ++ t
-text_in (element c n xs inside) = text_in c
-
-abbrev pub sole_text : List (List ℕ) → List ℕ
-sole_text (t ∷ []) = t
-sole_text _ = []
 
 -- the text of a datum of that key
 abbrev pub datum_text : List ℕ → Reader (List ℕ)
@@ -146,10 +109,6 @@ in_file f n xs inside =
 abbrev pub in_run : {A : Type 0} → Reader A → Reader A
 in_run f n xs inside =
     if bytes_eq n (codes "graph") && bytes_eq (id_of xs) (codes "run") && is_directed xs then each_in f inside else []
-
-abbrev pub in_tree : {A : Type 0} → Reader A → Option Content → List A
-in_tree f None = []
-in_tree f (Some c) = each_in f c
 
 -- the happenings and the edges in file order; None for what is neither
 unfoldable pub items_read : List ℕ → List (Option Item)

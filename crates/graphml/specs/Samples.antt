@@ -1,39 +1,8 @@
--- Texts that the reader takes, texts that it refuses, and what it reads.
-use Rattle.std.specs.Prelude.{◌≡◌, ℕ, Bool, true, false, List, [], ◌∷◌, ◌++◌, map, Some, None, Option, is_some, codes}
+-- A small file, and what is read of it.
+use Rattle.std.specs.Prelude.{◌≡◌, ℕ, List, [], ◌∷◌, ◌++◌, Some, None, Option, codes}
 use Rattle.protocol.specs.declared.happening.HappeningKind.TheVariants.{Sent, Crashed}
 use Rattle.protocol.specs.Beats.{edge}
-use Rattle.graphml.specs.Closing.{tree}
 use Rattle.graphml.specs.Reading.{Item, happened, joined, items_read, parties_read}
-
-pub record Sample : Type 0 where
-  pub text : List ℕ
-  pub closes : Bool
-
-abbrev sample : List ℕ → Bool → Sample
-sample text closes = record { text = codes "<?xml version=\"1.0\"?>\n" ++ text; closes = closes }
-
-abbrev pub samples : List Sample
-samples =
-    sample (codes "<a x=\"1\" y=\"1\">\n<b/>t<c></c></a>\n") true
-    -- crossed, never closed, closed by another name, closed twice
-    ∷ sample (codes "<a><b></a></b>") false
-    ∷ sample (codes "<a><b></b>") false
-    ∷ sample (codes "<a></ab>") false
-    ∷ sample (codes "<a></a></a>") false
-    -- two outermost elements, none, a text after it, a declaration in it
-    ∷ sample (codes "<a></a><b></b>") false
-    ∷ sample (codes "\n") false
-    ∷ sample (codes "<a></a>x") false
-    ∷ sample (codes "<a><?xml?></a>") false
-    -- cut in a tag, a value without its quotes or with one, a key twice, an ampersand
-    ∷ sample (codes "<a></a") false
-    ∷ sample (codes "<a x=1></a>") false
-    ∷ sample (codes "<a x=\"1></a>") false
-    ∷ sample (codes "<a x=\"1\" x=\"2\"></a>") false
-    ∷ sample (codes "<a>&</a>") false
-    -- no declaration at the very start
-    ∷ record { text = codes "<a></a>"; closes = false }
-    ∷ []
 
 -- a file with its attributes in another order, and with what no reader of a run can read
 abbrev pub file_sample : List ℕ
@@ -55,8 +24,7 @@ items_sample =
     ∷ None ∷ Some (happened 12 (record { place = 5; tick = 10; kind = Crashed }))
     ∷ Some (joined (edge 0 7)) ∷ None ∷ None ∷ []
 
--- every sample is taken or refused as the table says, and the file is read as it stands there
+-- the file is read as it stands there
 pub record SamplesStand : Type 0 where
-  pub closing : map (λ (s : Sample). record s { closes = is_some (tree s.text) }) samples ≡ samples
   pub items : items_read file_sample ≡ items_sample
   pub parties : parties_read file_sample ≡ Some 0 ∷ Some 1 ∷ Some 2 ∷ None ∷ None ∷ Some 12 ∷ []

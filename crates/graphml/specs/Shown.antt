@@ -10,12 +10,13 @@ use Rattle.protocol.specs.Beats.{Edge}
 use Rattle.protocol.specs.Deliveries.{EdgesAreTheDeliveries}
 use Rattle.graphml.specs.declared.answer.Exported.{Exported}
 use Rattle.graphml.specs.declared.answer.Refusal.{Refusal}
-use Rattle.graphml.specs.Cut.{EndsAt}
 use Rattle.graphml.specs.Body.{body}
-use Rattle.graphml.specs.Closing.{Closes}
+use Rattle.markup.specs.Closing.{Closes}
 use Rattle.graphml.specs.Reading.{edges_read, places_read}
 use Rattle.graphml.specs.Log.{ShowsTheLog, HasBothEnds, times, all_read}
 use Rattle.graphml.specs.Answer.{in_frame, exported, written}
+use Rattle.markup.specs.Cut.{EndsAt}
+use Rattle.graphml.specs.Elements.{spelling}
 
 -- what a whole file of a run by those steps shows of it, whose log is `log`; bs are its bytes
 pub record ShowsTheDeliveries (m : Meaning) (plan : Plan) (room : ℕ) (steps : List Step)
@@ -39,7 +40,7 @@ pub record ShowsTheRun (m : Meaning) (plan : Plan) (room : ℕ) (steps : List St
       IfOk answer (λ x. x.whole ≡ true → take x.bytes out' ≡ in_frame (body s.log plan.n))
   -- a cut file has the first elements of all, and the next did not fit
   pub cut_at_the_first_that_does_not_fit :
-      IfOk answer (λ x. x.whole ≡ false → EndsAt (length out - 275) (body s.log plan.n))
+      IfOk answer (λ x. x.whole ≡ false → EndsAt spelling (length out - 275) (body s.log plan.n))
   -- read from its bytes alone, whole or cut, each element in it is closed, inner before outer
   pub closes : IfOk answer (λ x. Closes (take x.bytes out'))
   -- and it shows the log: the first of its happenings and edges, or all of them

@@ -2,9 +2,10 @@
 use Rattle.std.specs.Prelude.{ℕ, ◌+◌, ◌-◌, ◌≤◌, Bool, List, length, nat_le}
 use Rattle.text.specs.Bytes.{placed}
 use Rattle.graphml.specs.declared.output.Output.{Output}
-use Rattle.graphml.specs.Elements.{Tag, Forest, render}
-use Rattle.graphml.specs.Cut.{kept, cost}
-use Rattle.graphml.specs.Counts.{count, is_happening, is_edge}
+use Rattle.graphml.specs.Elements.{spelling, Tag}
+use Rattle.graphml.specs.Counts.{is_happening, is_edge}
+use Rattle.markup.specs.Cut.{kept, cost}
+use Rattle.markup.specs.Forests.{Forest, render, count}
 
 -- lent: which loan the bytes come from; room: the bytes that are neither written nor set aside for the closings of what is open
 pub record State : Type 0 where
@@ -36,12 +37,12 @@ abbrev pub opened : State → List ℕ → ℕ → State
 opened s o closing = record s { bytes = placed s.bytes s.at o; at = s.at + length o; room = s.room - (length o + closing) }
 
 -- after a forest for which there is room
-abbrev pub after : State → Forest → State
-after s f = record s { bytes = placed s.bytes s.at (render f); at = s.at + length (render f); room = s.room - cost f; happenings = s.happenings + count is_happening f; edges = s.edges + count is_edge f }
+abbrev pub after : State → Forest Tag → State
+after s f = record s { bytes = placed s.bytes s.at (render spelling f); at = s.at + length (render spelling f); room = s.room - cost spelling f; happenings = s.happenings + count is_happening f; edges = s.edges + count is_edge f }
 
 -- after what fits of a forest
-abbrev pub drawn : State → Forest → State
-drawn s f = after s (kept s.room f)
+abbrev pub drawn : State → Forest Tag → State
+drawn s f = after s (kept spelling s.room f)
 
 -- after an element of that tag is counted
 abbrev pub marked : Tag → State → State

@@ -3,10 +3,11 @@
 // The output stands beside the tokens: were it in them, a caller would not know what the lent bytes end as.
 ghost use Rattle.std.specs.Prelude.{◌≡◌, is_ok, if◌then◌else◌};
 ghost use Rattle.graphml.specs.Texts.{head, tail, node_line, node_end, graph_line, graph_end};
-ghost use Rattle.graphml.specs.Elements.{one, happened, edge};
-ghost use Rattle.graphml.specs.Cut.{all_fits, kept};
-ghost use Rattle.graphml.specs.Numbers.{Each, Fits};
+ghost use Rattle.graphml.specs.Elements.{spelling, happened, edge};
+ghost use Rattle.graphml.specs.Numbers.{Fits};
 ghost use Rattle.graphml.specs.State.{state, Sound, wrote, opened, has_room, drawn};
+ghost use Rattle.markup.specs.Cut.{all_fits, kept};
+ghost use Rattle.markup.specs.Forests.{one, Each};
 
 use super::lines;
 use super::output::{Cut, Output};
@@ -60,9 +61,9 @@ impl RunGraph {
     // An edge, if it fits.
     pub(crate) fn edge(&self, out: &mut Output, source: usize, target: usize) -> Result<(), Cut>
         requires { Sound (state out.old) 20 }
-        ensures whole { is_ok result ≡ all_fits out.old.room (one (edge source target)) }
+        ensures whole { is_ok result ≡ all_fits spelling out.old.room (one (edge source target)) }
         ensures after { state out.new ≡ drawn (state out.old) (one (edge source target)) }
-        ensures numbers { Each Fits (kept out.old.room (one (edge source target))) }
+        ensures numbers { Each Fits (kept spelling out.old.room (one (edge source target))) }
         ensures sound { Sound (state out.new) 20 }
     {
         out.begin(lines::edge_line(source, target).as_slice(), 0)?;
@@ -115,9 +116,9 @@ impl PartyGraph {
         happening: &Happening,
     ) -> Result<(), Cut>
         requires { Sound (state out.old) 37 }
-        ensures whole { is_ok result ≡ all_fits out.old.room (one (happened place happening.now)) }
+        ensures whole { is_ok result ≡ all_fits spelling out.old.room (one (happened place happening.now)) }
         ensures after { state out.new ≡ drawn (state out.old) (one (happened place happening.now)) }
-        ensures numbers { Each Fits (kept out.old.room (one (happened place happening.now))) }
+        ensures numbers { Each Fits (kept spelling out.old.room (one (happened place happening.now))) }
         ensures sound { Sound (state out.new) 37 }
     {
         out.begin(lines::happening_line(place, happening).as_slice(), 0)?;

@@ -1,7 +1,7 @@
-// Readings of small texts, worked by hand.
+// A small file, read by hand.
 ghost use Rattle.graphml.specs.Samples.{SamplesStand};
 
-// What the reader that the promises speak of takes, refuses and reads.
+/// Reads nothing itself: what the readers of the promises read of the file is computed in its contract.
 pub fn reading_stands()
     ensures { SamplesStand }
 {}

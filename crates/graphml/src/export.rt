@@ -2,12 +2,13 @@
 ghost use Rattle.std.specs.Prelude.{◌≡◌, ◌-◌, true, false, length, take, IfOk};
 ghost use Rattle.slots.specs.Slots.{items};
 ghost use Rattle.protocol.specs.Views.{play};
-ghost use Rattle.graphml.specs.Cut.{EndsAt};
 ghost use Rattle.graphml.specs.Body.{body};
-ghost use Rattle.graphml.specs.Closing.{Closes};
+ghost use Rattle.markup.specs.Closing.{Closes};
 ghost use Rattle.graphml.specs.Log.{ShowsTheLog};
 ghost use Rattle.graphml.specs.Answer.{in_frame};
 ghost use Rattle.graphml.specs.Export.{export_answer, export_bytes};
+ghost use Rattle.markup.specs.Cut.{EndsAt};
+ghost use Rattle.graphml.specs.Elements.{spelling};
 
 use super::answer::{Exported, Refusal};
 use super::run::write_run;
@@ -27,7 +28,7 @@ pub fn export<P: Pace>(
     ensures whole { IfOk result (λ x. x.whole ≡ true →
         take x.bytes out.new ≡ in_frame (body (items log.now) group.now.plan.n)) }
     ensures cut { IfOk result (λ x. x.whole ≡ false →
-        EndsAt (length out.old - 275) (body (items log.now) group.now.plan.n)) }
+        EndsAt spelling (length out.old - 275) (body (items log.now) group.now.plan.n)) }
     // what a reader sees who has the written bytes alone
     ensures closes { IfOk result (λ x. Closes (take x.bytes out.new)) }
     ensures shown { IfOk result (λ x.

@@ -1,10 +1,11 @@
 // The parties with their happenings, and then the edges, as far as they fit.
 ghost use Rattle.std.specs.Prelude.{◌≡◌, is_ok};
-ghost use Rattle.graphml.specs.Elements.{none};
-ghost use Rattle.graphml.specs.Cut.{all_fits, kept};
-ghost use Rattle.graphml.specs.Numbers.{Each, Fits};
+ghost use Rattle.graphml.specs.Numbers.{Fits};
 ghost use Rattle.graphml.specs.Body.{happenings_of, edges_from, is_arrived, party_then, body};
 ghost use Rattle.graphml.specs.State.{state, Sound, drawn};
+ghost use Rattle.markup.specs.Cut.{all_fits, kept};
+ghost use Rattle.markup.specs.Forests.{none, Each};
+ghost use Rattle.graphml.specs.Elements.{spelling};
 
 use super::element::{PartyGraph, RunGraph};
 use super::output::{Cut, Output};
@@ -18,9 +19,9 @@ fn write_happenings(
     party: u16,
 ) -> Result<(), Cut>
     requires { Sound (state out.old) 37 }
-    ensures whole { is_ok result ≡ all_fits out.old.room (happenings_of party 0 log.now) }
+    ensures whole { is_ok result ≡ all_fits spelling out.old.room (happenings_of party 0 log.now) }
     ensures after { state out.new ≡ drawn (state out.old) (happenings_of party 0 log.now) }
-    ensures numbers { Each Fits (kept out.old.room (happenings_of party 0 log.now)) }
+    ensures numbers { Each Fits (kept spelling out.old.room (happenings_of party 0 log.now)) }
     ensures sound { Sound (state out.new) 37 }
 {
     for (place, happening) in log.iter().enumerate() {
@@ -39,9 +40,9 @@ fn write_party(
     party: u16,
 ) -> Result<RunGraph, RunGraph>
     requires { Sound (state out.old) 20 }
-    ensures whole { is_ok result ≡ all_fits out.old.room (party_then log.now party none) }
+    ensures whole { is_ok result ≡ all_fits spelling out.old.room (party_then log.now party none) }
     ensures after { state out.new ≡ drawn (state out.old) (party_then log.now party none) }
-    ensures numbers { Each Fits (kept out.old.room (party_then log.now party none)) }
+    ensures numbers { Each Fits (kept spelling out.old.room (party_then log.now party none)) }
     ensures sound { Sound (state out.new) 20 }
 {
     let node = run.open_node(out, party)?;
@@ -61,9 +62,9 @@ fn write_party(
 // An edge for each arrival, in log order, up to the first that does not fit.
 fn write_edges(out: &mut Output, run: &RunGraph, log: &[Happening]) -> Result<(), Cut>
     requires { Sound (state out.old) 20 }
-    ensures whole { is_ok result ≡ all_fits out.old.room (edges_from 0 log.now) }
+    ensures whole { is_ok result ≡ all_fits spelling out.old.room (edges_from 0 log.now) }
     ensures after { state out.new ≡ drawn (state out.old) (edges_from 0 log.now) }
-    ensures numbers { Each Fits (kept out.old.room (edges_from 0 log.now)) }
+    ensures numbers { Each Fits (kept spelling out.old.room (edges_from 0 log.now)) }
     ensures sound { Sound (state out.new) 20 }
 {
     for (place, happening) in log.iter().enumerate() {
@@ -88,9 +89,9 @@ pub(crate) fn write_body(
     parties: u8,
 ) -> Result<RunGraph, RunGraph>
     requires { Sound (state out.old) 20 }
-    ensures whole { is_ok result ≡ all_fits out.old.room (body log.now parties) }
+    ensures whole { is_ok result ≡ all_fits spelling out.old.room (body log.now parties) }
     ensures after { state out.new ≡ drawn (state out.old) (body log.now parties) }
-    ensures numbers { Each Fits (kept out.old.room (body log.now parties)) }
+    ensures numbers { Each Fits (kept spelling out.old.room (body log.now parties)) }
     ensures sound { Sound (state out.new) 20 }
 {
     for party in 0..=u16::from(parties) {

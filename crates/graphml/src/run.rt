@@ -1,10 +1,11 @@
 // A whole run, in the frame.
 ghost use Rattle.std.specs.Prelude.{◌≡◌, ◌-◌, true, false, length, take, IfOk};
-ghost use Rattle.graphml.specs.Cut.{EndsAt};
 ghost use Rattle.graphml.specs.Body.{body};
-ghost use Rattle.graphml.specs.Closing.{Closes};
+ghost use Rattle.markup.specs.Closing.{Closes};
 ghost use Rattle.graphml.specs.Log.{ShowsTheLog};
 ghost use Rattle.graphml.specs.Answer.{in_frame, written, exported};
+ghost use Rattle.markup.specs.Cut.{EndsAt};
+ghost use Rattle.graphml.specs.Elements.{spelling};
 
 use super::answer::{Exported, Refusal};
 use super::element::RunGraph;
@@ -22,7 +23,7 @@ pub(crate) fn write_run(log: &[Happening], parties: u8, out: &mut [u8]) -> Resul
     ensures whole { IfOk result (λ x. x.whole ≡ true →
         take x.bytes out.new ≡ in_frame (body log.now parties)) }
     ensures cut { IfOk result (λ x. x.whole ≡ false →
-        EndsAt (length out.old - 275) (body log.now parties)) }
+        EndsAt spelling (length out.old - 275) (body log.now parties)) }
     ensures closes { IfOk result (λ x. Closes (take x.bytes out.new)) }
     ensures shown { IfOk result (λ x. ShowsTheLog parties log.now x (take x.bytes out.new)) }
 {

@@ -16,9 +16,8 @@ use Rattle.orders.specs.declared.order.Order.{Order}
 use Rattle.orders.specs.declared.start.Start.{Start}
 use Rattle.graphml.specs.declared.answer.Exported.{Exported}
 use Rattle.graphml.specs.declared.answer.Refusal.{Refusal}
-use Rattle.graphml.specs.Cut.{EndsAt}
 use Rattle.graphml.specs.Body.{body}
-use Rattle.graphml.specs.Closing.{Closes}
+use Rattle.markup.specs.Closing.{Closes}
 use Rattle.graphml.specs.Log.{ShowsTheLog}
 use Rattle.graphml.specs.Answer.{in_frame, part, over, summary}
 use Rattle.graphml.specs.Export.{export_answer, export_bytes}
@@ -32,6 +31,8 @@ use Rattle.player.specs.Notices.{refused_line}
 use Rattle.player.specs.Told.{bytes_told, lines_told}
 use Rattle.player.specs.Faults.{file_number, TellsOfNoRecord}
 use Rattle.player.proofs.Running.{plays_run}
+use Rattle.markup.specs.Cut.{EndsAt}
+use Rattle.graphml.specs.Elements.{spelling}
 
 -- a question is answered no, and nothing was written
 pub not_set_up : (n : ℕ) (m : Meaning) (s : Start) (orders : List Order) (hs : List Happening) (out : List ℕ) (r : Result Ran FileFault) (f : FileFault) →
@@ -102,7 +103,7 @@ module _ (m : Meaning) (sound : Lawful m) (plan : Plan) (orders : List Order) (h
     pub played : (hs' : List Happening) (out out' : List ℕ) (p : Plan) (r : Result Exported Refusal) (bytes : ℕ) (lines : List ℕ) →
         hs' ≡ l'.slots.now → p ≡ plan → r ≡ export_answer (play t' l') p.n (length out) → out' ≡ export_bytes (play t' l') p.n out →
         IfOk r (λ x. x.whole ≡ true → take x.bytes out' ≡ in_frame (body (items l') p.n)) →
-        IfOk r (λ x. x.whole ≡ false → EndsAt (length out - 275) (body (items l') p.n)) →
+        IfOk r (λ x. x.whole ≡ false → EndsAt spelling (length out - 275) (body (items l') p.n)) →
         IfOk r (λ x. Closes (take x.bytes out')) → IfOk r (λ x. ShowsTheLog p.n (items l') x (take x.bytes out')) →
         Prints r stop bytes lines → Played m plan orders hs hs' out out' bytes lines
     played hs' out out' p r bytes lines h same answer written entire cut closes shows_log prints =

@@ -1,9 +1,9 @@
 use Rattle.std.proofs.Common.{refl}
 use Rattle.std.specs.Fmt.{digits}
-use Rattle.graphml.specs.Closing.{tree}
+use Rattle.markup.specs.Closing.{tree}
 use Rattle.graphml.specs.Reading.{items_read, parties_read}
 use Rattle.graphml.proofs.example.reading_stands.Goals as goal
 
 pub returns : goal.returns
 unfolding tree items_read parties_read digits
-returns c = record { closing = refl; items = refl; parties = refl }
+returns c = record { items = refl; parties = refl }

@@ -1,10 +1,7 @@
--- Digits and words have none of the bytes that end a value or a text.
-use Rattle.std.proofs.Common.{◌≡◌, ℕ, zero, suc, ◌+◌, ◌/◌, ◌%◌, ◌<◌, ◌≤◌, ◌==◌, Bool, true, false, cond, List, [], ◌∷◌, ◌++◌, decimal, refl, ap, ◌∙◌, append_assoc, append-nil, ne_eqb, arith, lt-ltb}
+-- Digits have none of the bytes that end a value or a text.
+use Rattle.std.proofs.Common.{◌≡◌, ℕ, zero, suc, ◌+◌, ◌/◌, ◌%◌, ◌<◌, ◌≤◌, ◌==◌, Bool, true, false, cond, List, [], ◌∷◌, ◌++◌, decimal, ap, ◌∙◌, append_assoc, append-nil, ne_eqb, arith, lt-ltb}
 use Rattle.std.specs.Fmt.{digits, digits_onto, digit_glyph}
-use Rattle.protocol.specs.Words.{word}
-use Rattle.protocol.specs.declared.happening.HappeningKind.{HappeningKind}
-use Rattle.protocol.specs.declared.happening.HappeningKind.TheVariants.{Sent, Arrived, Lost, Enrolled, Struck, Crashed, Stopped, Left, Joining, Leaving}
-use Rattle.graphml.specs.Marks.{Attribute, class, other, text, valued, scan}
+use Rattle.markup.specs.Marks.{Attribute, class, other, text, valued, scan}
 
 abbrev pub Plain : List ℕ → Type 0
 Plain [] = Unit {0}
@@ -54,14 +51,7 @@ pub decimal_plain : (n : ℕ) → Plain (decimal n)
 unfolding digits
 decimal_plain n = onto_plain 64 n [] tt
 
-pub word_plain : (k : HappeningKind) → Plain (word k)
-word_plain Sent = (refl, (refl, (refl, (refl, tt))))
-word_plain Arrived = (refl, (refl, (refl, (refl, (refl, (refl, (refl, tt)))))))
-word_plain Lost = (refl, (refl, (refl, (refl, tt))))
-word_plain Enrolled = (refl, (refl, (refl, (refl, (refl, (refl, (refl, (refl, tt))))))))
-word_plain Struck = (refl, (refl, (refl, (refl, (refl, (refl, tt))))))
-word_plain Crashed = (refl, (refl, (refl, (refl, (refl, (refl, (refl, tt)))))))
-word_plain Stopped = (refl, (refl, (refl, (refl, (refl, (refl, (refl, tt)))))))
-word_plain Left = (refl, (refl, (refl, (refl, tt))))
-word_plain Joining = (refl, (refl, (refl, (refl, (refl, (refl, (refl, tt)))))))
-word_plain Leaving = (refl, (refl, (refl, (refl, (refl, (refl, (refl, tt)))))))
+-- past a number in a value
+pub value_past : (n k : List ℕ) (xs : List Attribute) (v : List ℕ) (i : ℕ) (rest : List ℕ) →
+    scan (valued n xs k v) (decimal i ++ rest) ≡ scan (valued n xs k (v ++ decimal i)) rest
+value_past n k xs v i rest = value_on n k xs v (decimal i) rest (decimal_plain i)

@@ -1,6 +1,6 @@
 -- What marks come to: one element with everything inside it, each closed by an end tag of its own name.
 use Rattle.std.specs.Prelude.{ℕ, Bool, true, false, ◌==◌, ◌&&◌, not, List, [], ◌∷◌, Some, None, Option, IsSome, bytes_eq, if◌then◌else◌}
-use Rattle.graphml.specs.Marks.{Attribute, Mark, declared, starts, stops, stands, says, fault, marks}
+use Rattle.markup.specs.Marks.{Attribute, Mark, declared, starts, stops, stands, says, fault, marks}
 
 -- what stands between two tags: nothing, or a text or an element after what stands before it
 pub data Content : Type 0 where

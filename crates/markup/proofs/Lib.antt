@@ -1,0 +1,6 @@
+pub mod Kept
+pub mod Ending
+pub mod Digits
+pub mod Joined
+pub mod Nesting
+pub mod Back

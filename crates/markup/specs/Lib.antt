@@ -1,0 +1,6 @@
+pub mod Forests
+pub mod Cut
+pub mod Marks
+pub mod Closing
+pub mod Reading
+pub mod Samples
