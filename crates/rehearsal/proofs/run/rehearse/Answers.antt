@@ -28,14 +28,14 @@ loop-step-preserved g c =
     let s' : Play = play c.perform-step.new.self.table c.perform-step.new.log in
     let y : Step = record { call = (get_or xs c.loop-step.step-index _).call; answer = c.perform-step.result } in
     let after : s' ≡ perform (means p) plan room y.call s =
-    subst₃ (λ a b r. s' ≡ perform (means a) b r y.call s) i.2 i.3 i.4.long e.did.after in (
+    subst₃ (λ a b r. s' ≡ perform (means a) b r y.call s) i.2 i.3 i.4.long e.after in (
       map_set call_of xs c.loop-step.step-index y _ refl ∙ i.0,
       rw (take_more_set xs c.loop-step.step-index y (omega arith))
           (more (means p) plan room (opened (means p) plan) (take c.loop-step.step-index xs) s y s' i.1
-          (subst₂ (λ b r. told c.perform-step.result ≡ number b r y.call s) i.3 i.4.long e.did.answer) after),
-      e.pace ∙ i.2,
-      e.plan ∙ i.3,
-      extends_trans _ _ _ i.4 e.did.extends,
+          (subst₂ (λ b r. told c.perform-step.result ≡ number b r y.call s) i.3 i.4.long e.number) after),
+      e.stays.pace ∙ i.2,
+      e.stays.plan ∙ i.3,
+      extends_trans _ _ _ i.4 e.stays.extends,
     )
 
 pub returns : goal.returns
