@@ -1,0 +1,4 @@
+// A group with its log, from its opening on.
+#![tactic(auto)]
+
+pub mod run;
