@@ -1,5 +1,5 @@
 -- A run goes on.
-use Rattle.std.proofs.Common.{◌≡◌, [], ◌∷◌, ◌++◌, Result, sym, subst}
+use Rattle.std.proofs.Common.{◌≡◌, List, [], ◌∷◌, ◌++◌, Result, sym, subst}
 use mathlib.Core.Logic.{∥∥₁_map}
 use Rattle.pace.specs.Meaning.{Lawful}
 use Rattle.pace.specs.declared.meaning.Pace.{Ghosts}
@@ -9,25 +9,29 @@ use Rattle.protocol.specs.declared.call.Call.{Call}
 use Rattle.protocol.specs.declared.call.Step.{Step}
 use Rattle.protocol.specs.declared.refusal.Refusal.{Refusal}
 use Rattle.protocol.specs.Group.{opened}
-use Rattle.protocol.proofs.Rehearsal.{more, keeps}
+use Rattle.protocol.proofs.Rehearsal.{then, keeps}
 use Rattle.group.specs.declared.group.Group.{Group}
-use Rattle.group.specs.Does.{Rules, rules, state, Does}
+use Rattle.group.specs.Does.{Rules, rules, state, Stays, Does}
 use Rattle.group.proofs.Staying.{same_rules}
-use Rattle.runs.specs.Runs.{IsRun}
+use Rattle.runs.specs.Runs.{IsRun, Leads}
 
 module _ {A : Type 0} {D : Ghosts A} where
   -- a new group is a run
   pub opens : (g : Group A D) (l : SlotList Happening) → Lawful (D.means g.pace) → state g l ≡ opened (D.means g.pace) g.plan → ∥ IsRun (rules g l) (state g l) ∥₁
   opens g l sound e = let R = rules g l in ∣ ([], keeps R.meaning R.plan R.room sound [] (state g l) e) ∣₁
 
-  -- a call more
-  pub goes_on : (g g' : Group A D) (l l' : SlotList Happening) (call : Call) (answer : Result (Unit {0}) Refusal) → Lawful (D.means g.pace) →
-      Does call g g' l l' answer → ∥ IsRun (rules g l) (state g l) ∥₁ → ∥ IsRun (rules g' l') (state g' l') ∥₁
-  goes_on g g' l l' call answer sound h run =
+  -- some steps more
+  pub goes_on : (g g' : Group A D) (l l' : SlotList Happening) (steps : List Step) → Lawful (D.means g.pace) → Stays g g' l l' →
+      Leads (rules g l) (state g l) steps (state g' l') → ∥ IsRun (rules g l) (state g l) ∥₁ → ∥ IsRun (rules g' l') (state g' l') ∥₁
+  goes_on g g' l l' steps sound stays leads run =
       let R = rules g l in
-      let x : Step = record { call = call; answer = answer } in
       let on = λ (r : IsRun R (state g l)).
-      let steps = r.0 ++ (x ∷ []) in
-      subst (λ (Q : Rules). IsRun Q (state g' l')) (sym (same_rules g g' l l' h.stays))
-      (steps, keeps R.meaning R.plan R.room sound steps (state g' l') (more R.meaning R.plan R.room (opened R.meaning R.plan) r.0 (state g l) x (state g' l') r.1.by_the_rules h.number h.after)) in
+      let all = r.0 ++ steps in
+      subst (λ (Q : Rules). IsRun Q (state g' l')) (sym (same_rules g g' l l' stays))
+      (all, keeps R.meaning R.plan R.room sound all (state g' l') (then R.meaning R.plan R.room (opened R.meaning R.plan) r.0 (state g l) steps (state g' l') r.1.by_the_rules leads)) in
       ∥∥₁_map run on
+
+  -- a call more
+  pub goes_on_by : (g g' : Group A D) (l l' : SlotList Happening) (call : Call) (answer : Result (Unit {0}) Refusal) → Lawful (D.means g.pace) →
+      Does call g g' l l' answer → ∥ IsRun (rules g l) (state g l) ∥₁ → ∥ IsRun (rules g' l') (state g' l') ∥₁
+  goes_on_by g g' l l' call answer sound h = goes_on g g' l l' (record { call = call; answer = answer } ∷ []) sound h.stays (h.number, h.after)

@@ -4,6 +4,7 @@ ghost use Rattle.protocol.specs.Group.{opened};
 ghost use Rattle.group.specs.Does.{rules, state, Does};
 ghost use Rattle.runs.specs.Runs.{IsRun, DoesAll};
 
+use crate::making::make_all;
 use group::Group;
 use pace::Pace;
 use protocol::call::{Call, Step};
@@ -50,9 +51,7 @@ impl<'a, P: Pace> Run<'a, P> {
     pub fn make_all(&mut self, steps: &mut [Step])
         ensures { DoesAll self.old.group self.new.group self.old.log self.new.log steps.old steps.new }
     {
-        for step in steps.iter_mut() {
-            step.answer = self.perform(step.call);
-        }
+        make_all(&mut self.group, &mut self.log, steps);
     }
 
     /// Nothing to run: the contract is what every run keeps, whatever calls led to it.
