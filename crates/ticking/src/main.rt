@@ -2,7 +2,6 @@
 // of the last order. The orders themselves are not carried out.
 #![tactic(auto)]
 
-use group::Group;
 use orders::load::load;
 use orders::order::Order;
 use orders::start::{PaceKind, Start};
@@ -11,8 +10,10 @@ use pace::halving::Halving;
 use pace::limits::Limits;
 use pace::two_phase::TwoPhase;
 use player::sizes::{INPUT_BYTES, LOG_SLOTS, ORDER_SLOTS};
+use protocol::call::Call;
 use protocol::happening::Happening;
 use protocol::plan::Plan;
+use runs::run::Run;
 use slots::SlotList;
 use slots::timed::Timed;
 use std::io;
@@ -25,14 +26,13 @@ fn tick_one_by_one<P: Pace + Drop>(
     until: u32,
     slots: &mut [Happening],
 ) -> u32 {
-    let mut log = SlotList::new(slots);
-    let mut group = Group::open(pace, plan);
+    let mut run = Run::open(pace, plan, slots);
     for _ in 0..until {
-        if group.tick(&mut log).is_err() {
+        if run.perform(Call::Tick).is_err() {
             break;
         }
     }
-    group.clock()
+    run.group.clock()
 }
 
 // None where the limits or the plan are refused. A group holds its pace by value, so each pace has an arm.
