@@ -1,7 +1,5 @@
 // The calls of a group. Each puts its questions first; a refusal changes nothing. Two that look alike share two lines, and each has a contract of its own.
 // That pace and plan stay is part of each contract, since no ghost field can tell what a value was before a call.
-ghost use Rattle.std.specs.Prelude.{◌≡◌};
-ghost use Rattle.protocol.specs.Answers.{told};
 ghost use Rattle.protocol.specs.declared.call.Call.TheVariants.{Tick, Deliver, Lose, Crash, Join, Leave};
 ghost use Rattle.group.specs.Advance.{WentOn};
 ghost use Rattle.group.specs.Does.{Does};
@@ -37,10 +35,7 @@ impl<P: Pace> Group<P> {
     // Ticks until the clock is `until`, or the next tick would be refused. It answers a refusal only of its first tick, and then has changed
     // nothing: whoever wants to know why it stopped short calls it again. Time in which nothing is due costs nothing.
     pub fn advance(&mut self, log: &mut SlotList<'_, Happening>, until: u32) -> Result<(), Refusal>
-        ensures pace { self.new.pace ≡ self.old.pace }
-        ensures plan { self.new.plan ≡ self.old.plan }
-        ensures went { WentOn (P.means self.old.pace) self.old.plan until self.old.table
-            self.new.table log.old log.new (told result) }
+        ensures { WentOn until self.old self.new log.old log.new result }
     {
         if self.table.clock < until {
             ask_tick(&self.plan, &self.table, log)?;

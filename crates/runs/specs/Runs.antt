@@ -1,8 +1,11 @@
 -- What every run is, and what several calls do to it.
-use Rattle.std.specs.Prelude.{◌≡◌, List, map}
+use Rattle.std.specs.Prelude.{◌≡◌, ℕ, List, map}
+use Rattle.pace.specs.Meaning.{Meaning}
 use Rattle.pace.specs.declared.meaning.Pace.{Ghosts}
 use Rattle.slots.specs.declared.SlotList.{SlotList}
 use Rattle.protocol.specs.declared.happening.Happening.{Happening}
+use Rattle.protocol.specs.declared.plan.Plan.{Plan}
+use Rattle.protocol.specs.declared.call.Call.{Call}
 use Rattle.protocol.specs.declared.call.Step.{Step}
 use Rattle.protocol.specs.Group.{Play}
 use Rattle.protocol.specs.Rehearsals.{Rehearsed, call_of}
@@ -24,3 +27,10 @@ pub record DoesAll {A : Type 0} {d : Ghosts A} (g g' : Group A d) (l l' : SlotLi
   pub stays : Stays g g' l l'
   pub calls : map call_of steps' ≡ map call_of steps
   pub leads : Leads (rules g l) (state g l) steps' (state g' l')
+
+-- a run of those calls by the rules: there are steps, each a call with its answer, that lead from s to s'
+pub record RunOf (m : Meaning) (plan : Plan) (room : ℕ) (calls : List Call)
+    (s s' : Play) : Type 0 where
+  pub steps : List Step
+  pub by_the_rules : Rehearsed m plan room s steps s'
+  pub made : map call_of steps ≡ calls

@@ -1,6 +1,7 @@
 // A group with its log. Every value of the type is a run by the rules, and keeps their promise.
 ghost use Rattle.std.specs.Prelude.{◌≡◌};
 ghost use Rattle.protocol.specs.Group.{opened};
+ghost use Rattle.group.specs.Advance.{WentOn};
 ghost use Rattle.group.specs.Does.{rules, state, Does};
 ghost use Rattle.runs.specs.Runs.{IsRun, DoesAll};
 
@@ -45,6 +46,14 @@ impl<'a, P: Pace> Run<'a, P> {
         ensures { Does call self.old.group self.new.group self.old.log self.new.log result }
     {
         self.group.perform(&mut self.log, call)
+    }
+
+    /// Ticks until the clock is `until`, or the next tick would be refused; as `Group::advance`, it answers
+    /// a refusal of its first tick only.
+    pub fn advance(&mut self, until: u32) -> Result<(), Refusal>
+        ensures { WentOn until self.old.group self.new.group self.old.log self.new.log result }
+    {
+        self.group.advance(&mut self.log, until)
     }
 
     /// Makes every call in turn, refused or not, and puts each answer beside it.
