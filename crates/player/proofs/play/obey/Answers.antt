@@ -1,6 +1,5 @@
 use Rattle.std.proofs.Common.{◌-◌, replicate, Err, refl, ap, ◌∙◌}
 use Rattle.std.proofs.lemmas.Result.{err_from_is_err_and}
-use Rattle.slots.specs.Slots.{capacity}
 use Rattle.protocol.specs.declared.call.Call.TheVariants.{Tick}
 use Rattle.player.specs.Playing.{fault_told, at_most_one, own_call}
 use Rattle.player.proofs.Turns.{turn, passed_on}
