@@ -1,5 +1,6 @@
 pub mod Sane
 pub mod Views
+pub mod Does
 pub mod Follows
 pub mod Passes
 pub mod Advance

@@ -1,10 +1,8 @@
 // The calls of a group. Each puts its questions first; a refusal changes nothing. Two that look alike share two lines, and each has a contract of its own.
-// That pace and plan stay is said by every call, since no ghost field can tell what a value was before a call.
-ghost use Rattle.std.specs.Prelude.{◌≡◌};
-ghost use Rattle.protocol.specs.Answers.{told};
+// That pace and plan stay is part of each contract, since no ghost field can tell what a value was before a call.
 ghost use Rattle.protocol.specs.declared.call.Call.TheVariants.{Tick, Deliver, Lose, Crash, Join, Leave};
 ghost use Rattle.group.specs.Advance.{WentOn};
-ghost use Rattle.group.specs.Views.{Performed};
+ghost use Rattle.group.specs.Does.{Does};
 
 use crate::acts::{do_crash, do_deliver, do_join, do_leave, do_lose};
 use crate::advancing::tick_until;
@@ -21,9 +19,7 @@ use slots::SlotList;
 impl<P: Pace> Group<P> {
     // Closes the present tick; one at which nothing is due only counts the clock.
     pub fn tick(&mut self, log: &mut SlotList<'_, Happening>) -> Result<(), Refusal>
-        ensures pace { self.new.pace ≡ self.old.pace }
-        ensures plan { self.new.plan ≡ self.old.plan }
-        ensures did { Performed (P.means self.old.pace) self.old.plan Tick self.old.table self.new.table log.old log.new (told result) }
+        ensures { Does Tick self.old self.new log.old log.new result }
     {
         if self.table.clock < self.quiet_until {
             ask_quiet_tick(&self.plan, &self.table, log)?;
@@ -39,10 +35,7 @@ impl<P: Pace> Group<P> {
     // Ticks until the clock is `until`, or the next tick would be refused. It answers a refusal only of its first tick, and then has changed
     // nothing: whoever wants to know why it stopped short calls it again. Time in which nothing is due costs nothing.
     pub fn advance(&mut self, log: &mut SlotList<'_, Happening>, until: u32) -> Result<(), Refusal>
-        ensures pace { self.new.pace ≡ self.old.pace }
-        ensures plan { self.new.plan ≡ self.old.plan }
-        ensures went { WentOn (P.means self.old.pace) self.old.plan until self.old.table
-            self.new.table log.old log.new (told result) }
+        ensures { WentOn until self.old self.new log.old log.new result }
     {
         if self.table.clock < until {
             ask_tick(&self.plan, &self.table, log)?;
@@ -60,9 +53,7 @@ impl<P: Pace> Group<P> {
         party: u8,
         leg: u8,
     ) -> Result<(), Refusal>
-        ensures pace { self.new.pace ≡ self.old.pace }
-        ensures plan { self.new.plan ≡ self.old.plan }
-        ensures did { Performed (P.means self.old.pace) self.old.plan (Deliver party leg) self.old.table self.new.table log.old log.new (told result) }
+        ensures { Does (Deliver party leg) self.old self.new log.old log.new result }
     {
         let (member, beat) = ask_beat(&self.plan, &self.table, log, party, leg)?;
         self.quiet_until = 0;
@@ -78,9 +69,7 @@ impl<P: Pace> Group<P> {
         party: u8,
         leg: u8,
     ) -> Result<(), Refusal>
-        ensures pace { self.new.pace ≡ self.old.pace }
-        ensures plan { self.new.plan ≡ self.old.plan }
-        ensures did { Performed (P.means self.old.pace) self.old.plan (Lose party leg) self.old.table self.new.table log.old log.new (told result) }
+        ensures { Does (Lose party leg) self.old self.new log.old log.new result }
     {
         let (member, beat) = ask_beat(&self.plan, &self.table, log, party, leg)?;
         self.quiet_until = 0;
@@ -91,9 +80,7 @@ impl<P: Pace> Group<P> {
     // The root (party 0) or a party crashes.
     #[tactic(auto, using(crate::proofs::Safe::sane_at, crate::proofs::Safe::sane_crashed))]
     pub fn crash(&mut self, log: &mut SlotList<'_, Happening>, party: u8) -> Result<(), Refusal>
-        ensures pace { self.new.pace ≡ self.old.pace }
-        ensures plan { self.new.plan ≡ self.old.plan }
-        ensures did { Performed (P.means self.old.pace) self.old.plan (Crash party) self.old.table self.new.table log.old log.new (told result) }
+        ensures { Does (Crash party) self.old self.new log.old log.new result }
     {
         let member = ask_crash(&self.plan, &self.table, log, party)?;
         self.quiet_until = 0;
@@ -104,9 +91,7 @@ impl<P: Pace> Group<P> {
     // An outside party asks to be taken on the roll.
     #[tactic(auto, using(crate::proofs::Safe::sane_at, crate::proofs::Safe::sane_joins))]
     pub fn join(&mut self, log: &mut SlotList<'_, Happening>, party: u8) -> Result<(), Refusal>
-        ensures pace { self.new.pace ≡ self.old.pace }
-        ensures plan { self.new.plan ≡ self.old.plan }
-        ensures did { Performed (P.means self.old.pace) self.old.plan (Join party) self.old.table self.new.table log.old log.new (told result) }
+        ensures { Does (Join party) self.old self.new log.old log.new result }
     {
         let member = ask_join(&self.plan, &self.table, log, party)?;
         let trip = self.pace.limits().tmin();
@@ -118,9 +103,7 @@ impl<P: Pace> Group<P> {
     // A party that is in begins to leave.
     #[tactic(auto, using(crate::proofs::Safe::sane_at, crate::proofs::Safe::sane_leaves))]
     pub fn leave(&mut self, log: &mut SlotList<'_, Happening>, party: u8) -> Result<(), Refusal>
-        ensures pace { self.new.pace ≡ self.old.pace }
-        ensures plan { self.new.plan ≡ self.old.plan }
-        ensures did { Performed (P.means self.old.pace) self.old.plan (Leave party) self.old.table self.new.table log.old log.new (told result) }
+        ensures { Does (Leave party) self.old self.new log.old log.new result }
     {
         let member = ask_leave(&self.plan, &self.table, log, party)?;
         self.quiet_until = 0;
@@ -130,9 +113,7 @@ impl<P: Pace> Group<P> {
 
     // Any call, by its value.
     pub fn perform(&mut self, log: &mut SlotList<'_, Happening>, call: Call) -> Result<(), Refusal>
-        ensures pace { self.new.pace ≡ self.old.pace }
-        ensures plan { self.new.plan ≡ self.old.plan }
-        ensures did { Performed (P.means self.old.pace) self.old.plan call self.old.table self.new.table log.old log.new (told result) }
+        ensures { Does call self.old self.new log.old log.new result }
     {
         match call {
             Call::Tick => self.tick(log),

@@ -4,6 +4,8 @@
 #[cfg(test)]
 mod files;
 #[cfg(test)]
+mod groups;
+#[cfg(test)]
 mod lines;
 #[cfg(test)]
 mod lists;
@@ -11,6 +13,4 @@ mod lists;
 mod paces;
 #[cfg(test)]
 mod play;
-#[cfg(test)]
-mod runs;
 pub mod worked;

@@ -12,6 +12,7 @@ use Rattle.protocol.specs.Runs.{is_own_log}
 use Rattle.protocol.specs.Promise.{KeepsTheRules}
 use Rattle.protocol.proofs.Rehearsal.{keeps}
 use Rattle.protocol.specs.Views.{play}
+use Rattle.runs.specs.Runs.{RunOf}
 use Rattle.orders.specs.declared.order.Order.{Order}
 use Rattle.orders.specs.declared.start.Start.{Start}
 use Rattle.graphml.specs.declared.answer.Exported.{Exported}
@@ -25,7 +26,7 @@ use Rattle.graphml.specs.Shown.{ShowsTheRun}
 use Rattle.graphml.proofs.Shown.{shows}
 use Rattle.player.specs.declared.fault.FileFault.{FileFault}
 use Rattle.player.specs.declared.program.Ran.{Ran}
-use Rattle.player.specs.Playing.{Stop, Playing, plays, RunOf}
+use Rattle.player.specs.Playing.{Stop, Playing, plays}
 use Rattle.player.specs.Program.{cap_and_plan_no, run, Prints, Played, SetUp}
 use Rattle.player.specs.Notices.{refused_line}
 use Rattle.player.specs.Told.{bytes_told, lines_told}

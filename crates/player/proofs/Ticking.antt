@@ -1,61 +1,62 @@
 -- Ticks made towards a tick by advancing over and over.
-use Rattle.std.proofs.Common.{true, cond, ltb, ◌≡◌, ℕ, suc, ◌-◌, ◌<◌, replicate, sym, ap, ◌∙◌, arith}
+use Rattle.std.proofs.Common.{true, cond, ltb, ◌≡◌, ℕ, suc, ◌-◌, ◌<◌, replicate, Result, sym, ap, ◌∙◌, arith}
 use Rattle.std.proofs.lemmas.Bool.Decides.{nat_tests}
-use Rattle.pace.specs.Meaning.{Meaning}
+use Rattle.pace.specs.declared.meaning.Pace.{Ghosts}
 use Rattle.slots.specs.declared.SlotList.{SlotList}
-use Rattle.slots.specs.Slots.{capacity, Extends}
+use Rattle.slots.specs.Slots.{capacity}
 use Rattle.slots.proofs.Growing.{extends_trans}
 use Rattle.protocol.specs.declared.happening.Happening.{Happening}
-use Rattle.protocol.specs.declared.table.Table.{Table}
-use Rattle.protocol.specs.declared.plan.Plan.{Plan}
 use Rattle.protocol.specs.declared.call.Call.TheVariants.{Tick}
+use Rattle.protocol.specs.declared.refusal.Refusal.{Refusal}
+use Rattle.protocol.specs.Answers.{told}
 use Rattle.protocol.specs.Group.{ticked}
 use Rattle.protocol.specs.Runs.{number, unless}
-use Rattle.protocol.specs.Making.{Making, Same}
+use Rattle.protocol.specs.Making.{Same}
 use Rattle.protocol.specs.Views.{play}
 use Rattle.protocol.proofs.Making.{same_trans, tick_refused}
 use Rattle.group.specs.Advance.{ticks_to, WentOn}
+use Rattle.group.specs.declared.group.Group.{Group}
+use Rattle.group.specs.Does.{Rules, rules, state, Stays}
+use Rattle.group.proofs.Staying.{stays_on, same_rules}
 use Rattle.group.proofs.Towards.{resumed}
 use Rattle.player.specs.Playing.{Made}
 
 -- some of the ticks are made, none of them refused
-pub record Towards (m : Meaning) (plan : Plan) (until : ℕ) (t t' : Table) (l l' : SlotList Happening) : Type 0 where
-  pub same : Same (ticks_to m plan (capacity l) until (play t l)) (ticks_to m plan (capacity l) until (play t' l'))
-  pub extends : Extends l l'
+pub record Towards {A : Type 0} {d : Ghosts A} (until : ℕ) (b g : Group A d) (l k : SlotList Happening) : Type 0 where
+  pub stays : Stays b g l k
+  pub same : Same (ticks_to (d.means b.pace) b.plan (capacity l) until (state b l)) (ticks_to (d.means b.pace) b.plan (capacity l) until (state g k))
 
-module _ {A : Type 0} (means : A → Meaning) (p p' : A) (plan plan' : Plan) (until : ℕ) (t x x' : Table) (l y y' : SlotList Happening) (n : ℕ)
-    (e : p' ≡ p) (f : plan' ≡ plan) (i : Towards (means p) plan until t x l y) (w : WentOn (means p') plan' until x x' y y' n) where
-  abbrev m : Meaning
-  m = means p
+module _ {A : Type 0} {D : Ghosts A} (until : ℕ) (b g g' : Group A D) (l k k' : SlotList Happening) (answer : Result (Unit {0}) Refusal)
+    (i : Towards until b g l k) (w : WentOn until g g' k k' answer) where
+  abbrev R : Rules
+  R = rules b l
 
-  abbrev room : ℕ
-  room = capacity l
-
-  same_ticks : ticks_to (means p') plan' (capacity y) until (play x y) ≡ ticks_to m plan room until (play x y)
-  same_ticks =
-      ap (λ q. ticks_to (means q) plan' (capacity y) until (play x y)) e
-      ∙ ap (λ q. ticks_to m q (capacity y) until (play x y)) f
-      ∙ ap (λ k. ticks_to m plan k until (play x y)) i.extends.long
+  same : rules g k ≡ R
+  same = same_rules b g l k i.stays
 
   -- more of them
-  pub towards_more : Towards m plan until t x' l y'
+  pub towards_more : Towards until b g' l k'
   towards_more =
       record {
-        same = same_trans _ _ _ i.same (resumed m plan room until (play x y) (play x' y') (w.after ∙ ap (λ (a : Making). a.play) same_ticks));
-        extends = extends_trans l y y' i.extends w.extends;
+        stays = stays_on b g g' l k k' i.stays w.stays;
+        same =
+            same_trans _ _ _ i.same
+            (resumed R.meaning R.plan R.room until (state g k) (state g' k')
+            (w.after ∙ ap (λ (Q : Rules). (ticks_to Q.meaning Q.plan Q.room until (state g k)).play) same));
       }
 
   -- the next one is refused
-  pub towards_refused : (k told : ℕ) → n ≡ suc k → told ≡ n → x.clock < until → Made m plan (replicate (until - t.clock) Tick) t x' l y' told
-  towards_refused k told z same h =
-      let s = play x y in
-      let first : ltb x.clock until ≡ true = grind (arith, nat_tests) in
-      let asked : number plan room Tick s ≡ suc k =
-      ap (λ j. number plan j Tick s) (sym i.extends.long) ∙ ap (λ q. number q (capacity y) Tick s) (sym f) ∙ sym (w.answer ∙ ap (λ b. cond b (number plan' (capacity y) Tick s) 0) first) ∙ z in
-      let r = tick_refused m plan room until s s k h asked (sym (ap (λ j. unless j s (ticked m plan s)) asked)) in
-      let kept = w.refused k z in
+  pub towards_refused : (n told' : ℕ) → told answer ≡ suc n → told' ≡ told answer → g.table.clock < until →
+      Made R.meaning R.plan (replicate (until - b.table.clock) Tick) b.table g'.table l k' told'
+  towards_refused n told' z tells h =
+      let s = state g k in
+      let first : ltb g.table.clock until ≡ true = grind (arith, nat_tests) in
+      let asked : number R.plan R.room Tick s ≡ suc n =
+      sym (w.number ∙ ap (λ c. cond c (number g.plan (capacity k) Tick s) 0) first ∙ ap (λ (Q : Rules). number Q.plan Q.room Tick s) same) ∙ z in
+      let r = tick_refused R.meaning R.plan R.room until s s n h asked (sym (ap (λ j. unless j s (ticked R.meaning R.plan s)) asked)) in
+      let kept = w.refused n z in
       record {
-        answer = same ∙ z ∙ sym (i.same.number ∙ r.1);
-        after = ap (λ a. play a y') kept.0 ∙ ap (λ a. play x a) kept.1 ∙ sym (i.same.play ∙ r.0);
-        extends = extends_trans l y y' i.extends w.extends;
+        answer = tells ∙ z ∙ sym (i.same.number ∙ r.1);
+        after = ap (λ a. play a k') kept.0 ∙ ap (λ a. play g.table a) kept.1 ∙ sym (i.same.play ∙ r.0);
+        extends = extends_trans l k k' i.stays.extends w.stays.extends;
       }

@@ -1,7 +1,8 @@
 -- A call of a group in the midst of others, by the pace, the plan and the log's room that the first of them found.
-use Rattle.std.proofs.Common.{◌≡◌, ℕ, List, IsErrAnd, Err, Result, ap, ◌∙◌}
+use Rattle.std.proofs.Common.{◌≡◌, ℕ, List, IsErrAnd, Err, Result, ap, ◌∙◌, subst}
 use Rattle.std.proofs.lemmas.Result.{err_from_is_err_and}
 use Rattle.pace.specs.Meaning.{Meaning}
+use Rattle.pace.specs.declared.meaning.Pace.{Ghosts}
 use Rattle.slots.specs.declared.SlotList.{SlotList}
 use Rattle.slots.specs.Slots.{capacity}
 use Rattle.protocol.specs.declared.happening.Happening.{Happening}
@@ -9,11 +10,13 @@ use Rattle.protocol.specs.declared.table.Table.{Table}
 use Rattle.protocol.specs.declared.plan.Plan.{Plan}
 use Rattle.protocol.specs.declared.call.Call.{Call}
 use Rattle.protocol.specs.declared.refusal.Refusal.{Refusal}
-use Rattle.protocol.specs.Answers.{refusal_number}
+use Rattle.protocol.specs.Answers.{refusal_number, told}
 use Rattle.protocol.specs.Runs.{number, perform}
 use Rattle.protocol.specs.Making.{Making, makes}
 use Rattle.protocol.specs.Views.{play}
-use Rattle.group.specs.Views.{Performed}
+use Rattle.group.specs.declared.group.Group.{Group}
+use Rattle.group.specs.Does.{Rules, state, Stays, Does}
+use Rattle.group.proofs.Staying.{same_rules}
 use Rattle.player.specs.declared.play.PlayFault.{PlayFault}
 use Rattle.player.specs.declared.play.PlayFault.TheVariants.{Refused}
 use Rattle.player.specs.Playing.{fault_told, Made}
@@ -22,14 +25,14 @@ pub record Turn (m : Meaning) (plan : Plan) (room : ℕ) (call : Call) (t t' : T
   pub answer : told ≡ number plan room call (play t l)
   pub after : play t' l' ≡ perform m plan room call (play t l)
 
-pub turn : {A : Type 0} (means : A → Meaning) (p p' : A) (plan plan' : Plan) (room : ℕ) (call : Call) (t t' : Table) (l l' : SlotList Happening) (told : ℕ) →
-    p' ≡ p → plan' ≡ plan → capacity l ≡ room → Performed (means p') plan' call t t' l l' told → Turn (means p) plan room call t t' l l' told
-turn means p p' plan plan' room call t t' l l' told e f g h =
+-- a group was b over the log l, and is g over k when it makes the call
+pub turn : {A : Type 0} {D : Ghosts A} (b g g' : Group A D) (l k k' : SlotList Happening) (call : Call) (answer : Result (Unit {0}) Refusal) →
+    Stays b g l k → Does call g g' k k' answer → Turn (D.means b.pace) b.plan (capacity l) call g.table g'.table k k' (told answer)
+turn b g g' l k k' call answer stays h =
+    let same = same_rules b g l k stays in
     record {
-      answer = h.answer ∙ ap (λ q. number q (capacity l) call (play t l)) f ∙ ap (λ n. number plan n call (play t l)) g;
-      after =
-          h.after ∙ ap (λ q. perform (means q) plan' (capacity l) call (play t l)) e
-          ∙ ap (λ q. perform (means p) q (capacity l) call (play t l)) f ∙ ap (λ n. perform (means p) plan n call (play t l)) g;
+      answer = subst (λ (R : Rules). told answer ≡ number R.plan R.room call (state g k)) same h.number;
+      after = subst (λ (R : Rules). state g' k' ≡ perform R.meaning R.plan R.room call (state g k)) same h.after;
     }
 
 -- the group's refusal, inside the player's fault, tells its own number

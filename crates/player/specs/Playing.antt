@@ -1,5 +1,5 @@
 -- Orders played over a group: the calls that each asks for, and what comes of making them up to the first refusal.
-use Rattle.std.specs.Prelude.{◌≡◌, ℕ, zero, suc, ◌+◌, ◌-◌, List, [], ◌∷◌, ◌++◌, map, replicate, Some, None, Ok, Err, Option, Result}
+use Rattle.std.specs.Prelude.{◌≡◌, ℕ, zero, suc, ◌+◌, ◌-◌, List, [], ◌∷◌, ◌++◌, replicate, Some, None, Ok, Err, Option, Result}
 use Rattle.pace.specs.Meaning.{Meaning}
 use Rattle.slots.specs.declared.SlotList.{SlotList}
 use Rattle.slots.specs.Slots.{capacity, Extends}
@@ -13,9 +13,10 @@ use Rattle.protocol.specs.declared.call.Step.{Step}
 use Rattle.protocol.specs.Answers.{refusal_number}
 use Rattle.protocol.specs.Group.{Play, opened}
 use Rattle.protocol.specs.Making.{Making, makes}
-use Rattle.protocol.specs.Rehearsals.{Rehearsed, call_of}
+use Rattle.protocol.specs.Rehearsals.{Rehearsed}
 use Rattle.protocol.specs.Views.{play}
 use Rattle.protocol.specs.Promise.{KeepsTheRules}
+use Rattle.runs.specs.Runs.{RunOf}
 use Rattle.orders.specs.declared.order.Order.{Order}
 use Rattle.orders.specs.declared.order.OrderKind.{OrderKind}
 use Rattle.orders.specs.declared.order.OrderKind.TheVariants.{Deliver, Lose, Crash, Join, Leave, Wait}
@@ -84,12 +85,6 @@ fault_told (Err f) = fault_number f
 abbrev pub stop_told : Result (Unit {0}) PlayStop → Stop
 stop_told (Ok u) = record { order = 0; number = 0 }
 stop_told (Err x) = record { order = x.order; number = fault_number x.fault }
-
--- a run of those calls by the rules: there are steps, each a call with its answer, that lead from s to s'
-pub record RunOf (m : Meaning) (plan : Plan) (room : ℕ) (calls : List Call) (s s' : Play) : Type 0 where
-  pub steps : List Step
-  pub by_the_rules : Rehearsed m plan room s steps s'
-  pub made : map call_of steps ≡ calls
 
 -- the orders were played, up to the first refusal: the table, the records and the stop are those that `plays` gives, and they come of a
 -- run of its calls by the rules. Where calls from the opening on had brought the group to where it stood, both together keep the promise of a run

@@ -8,6 +8,7 @@ use Rattle.protocol.specs.declared.plan.Plan.{Plan}
 use Rattle.protocol.specs.Group.{opened}
 use Rattle.protocol.specs.Plans.{parties_no}
 use Rattle.protocol.specs.Promise.{KeepsTheRules}
+use Rattle.runs.specs.Runs.{RunOf}
 use Rattle.orders.specs.declared.fault.ReadFault.{ReadFault}
 use Rattle.orders.specs.declared.order.Order.{Order}
 use Rattle.orders.specs.declared.start.Start.{Start}
@@ -20,7 +21,7 @@ use Rattle.graphml.specs.Shown.{ShowsTheRun}
 use Rattle.text.specs.declared.line_bytes.LineBytes.{LineBytes}
 use Rattle.text.specs.Lines.{AnsweredAs}
 use Rattle.player.specs.FilePace.{pace_of}
-use Rattle.player.specs.Playing.{Stop, Playing, plays, RunOf}
+use Rattle.player.specs.Playing.{Stop, Playing, plays}
 use Rattle.player.specs.Notices.{refused_line, cut_line, stop_line}
 
 -- the number of a question, or where it is answered yes what the later ones come to

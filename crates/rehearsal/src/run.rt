@@ -10,6 +10,7 @@ use pace::Pace;
 use protocol::call::Step;
 use protocol::happening::Happening;
 use protocol::plan::Plan;
+use runs::making::make_all;
 use slots::SlotList;
 
 // What a run came to: the group, how many of the slots hold its log, and what the export answered.
@@ -37,9 +38,7 @@ pub fn rehearse<P: Pace>(
 {
     let mut log = SlotList::new(slots);
     let mut group = Group::open(pace, plan);
-    for step in steps.iter_mut() {
-        step.answer = group.perform(&mut log, step.call);
-    }
+    make_all(&mut group, &mut log, steps);
     let exported = export(&group, &log, out);
     let records = log.len();
     Rehearsal {

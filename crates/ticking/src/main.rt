@@ -2,14 +2,15 @@
 // of the last order. The orders themselves are not carried out.
 #![tactic(auto)]
 
-use group::Group;
 use orders::load::load;
 use orders::order::Order;
 use orders::start::Start;
 use player::file_pace::FilePace;
 use player::sizes::{INPUT_BYTES, LOG_SLOTS, ORDER_SLOTS};
+use protocol::call::Call;
 use protocol::happening::Happening;
 use protocol::plan::Plan;
+use runs::run::Run;
 use slots::SlotList;
 use slots::timed::Timed;
 use std::io;
@@ -19,14 +20,13 @@ use std::io::Read;
 fn tick_to(start: Start, until: u32, slots: &mut [Happening]) -> Option<u32> {
     let pace = FilePace::new(start).ok()?;
     let plan = Plan::new(start.kind, start.parties).ok()?;
-    let mut log = SlotList::new(slots);
-    let mut group = Group::open(pace, plan);
+    let mut run = Run::open(pace, plan, slots);
     for _ in 0..until {
-        if group.tick(&mut log).is_err() {
+        if run.perform(Call::Tick).is_err() {
             break;
         }
     }
-    Some(group.clock())
+    Some(run.group.clock())
 }
 
 fn main(rt: HostRuntime) -> io::Result<()> {

@@ -1,6 +1,5 @@
 use Rattle.std.proofs.Common.{◌-◌, replicate, Err, refl, ap, ◌∙◌}
 use Rattle.std.proofs.lemmas.Result.{err_from_is_err_and}
-use Rattle.slots.specs.Slots.{capacity}
 use Rattle.protocol.specs.declared.call.Call.TheVariants.{Tick}
 use Rattle.player.specs.Playing.{fault_told, at_most_one, own_call}
 use Rattle.player.proofs.Turns.{turn, passed_on}
@@ -28,10 +27,10 @@ returns-in_err-perform-clause-made g c =
     let x = c.tick_to.new in
     let e = c.in_err-perform.ensures in
     let y = c.perform.new in
-    let w = turn means a.pace x.group.pace a.plan x.group.plan (capacity l) c.in-Some.call x.group.table y.self.table x.log y.log _ t.pace t.plan t.made.extends.long e.did in
+    let w = turn a x.group y.self l x.log y.log c.in-Some.call _ (record { pace = t.pace; plan = t.plan; extends = t.made.extends }) e in
     let told = passed_on c.from_residual-in_err-perform.result _ c.from_residual-in_err-perform.ensures.1 in
     made_own (means a.pace) a.plan (replicate (o.tick - a.table.clock) Tick) a.table x.group.table l x.log
-    c.in-Some.call (own_call o) y.self.table y.log _ _ c.in-Some.ensures told t.made w e.did.extends
+    c.in-Some.call (own_call o) y.self.table y.log _ _ c.in-Some.ensures told t.made w e.stays.extends
 
 pub returns-in_ok-perform-clause-made : goal.returns-in_ok-perform-clause-made
 returns-in_ok-perform-clause-made g c =
@@ -43,6 +42,6 @@ returns-in_ok-perform-clause-made g c =
     let x = c.tick_to.new in
     let e = c.in_ok-perform.ensures in
     let y = c.perform.new in
-    let w = turn means a.pace x.group.pace a.plan x.group.plan (capacity l) c.in-Some.call x.group.table y.self.table x.log y.log 0 t.pace t.plan t.made.extends.long e.did in
+    let w = turn a x.group y.self l x.log y.log c.in-Some.call _ (record { pace = t.pace; plan = t.plan; extends = t.made.extends }) e in
     made_own (means a.pace) a.plan (replicate (o.tick - a.table.clock) Tick) a.table x.group.table l x.log
-    c.in-Some.call (own_call o) y.self.table y.log 0 0 c.in-Some.ensures refl t.made w e.did.extends
+    c.in-Some.call (own_call o) y.self.table y.log 0 0 c.in-Some.ensures refl t.made w e.stays.extends

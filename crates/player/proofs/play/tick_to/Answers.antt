@@ -7,23 +7,22 @@ use Rattle.player.proofs.play.tick_to.Goals as goal
 
 pub loop-group-preserved : goal.loop-group-preserved
 loop-group-preserved g c =
-    let a = c.args.group.now in
+    let a = c.args in
     let x = c.loop-group in
-    let i = x.invariant in
     let y = c.advance.new in
-    let e = c.in_ok-advance.ensures in (
-      towards_more g.P.Pace.means a.pace x.group.pace a.plan x.group.plan c.args.tick a.table x.group.table y.self.table c.args.log.now x.log y.log _ i.1 i.2 i.0 e.went,
-      e.pace ∙ i.1,
-      e.plan ∙ i.2,
-    )
+    towards_more a.tick a.group.now x.group y.self a.log.now x.log y.log _ x.invariant c.in_ok-advance.ensures
 
-pub returns-in_err-advance-clause-made : goal.returns-in_err-advance-clause-made
-returns-in_err-advance-clause-made g c =
-    let a = c.args.group.now in
+pub returns-in_err-advance : goal.returns-in_err-advance
+returns-in_err-advance g c =
+    let a = c.args in
     let x = c.loop-group in
-    let i = x.invariant in
     let y = c.advance.new in
     let e = c.in_err-advance.ensures in
     let k = some_number c.in_err-advance.field-0.0 in
-    towards_refused g.P.Pace.means a.pace x.group.pace a.plan x.group.plan c.args.tick a.table x.group.table y.self.table c.args.log.now x.log y.log _ i.1 i.2 i.0 e.went
-    k.0 (fault_told c.from_residual.result) k.1 (passed_on c.from_residual.result _ c.from_residual.ensures.1) (omega (arith, c.clock.ensures, c.loop-group-test.true))
+    record {
+      pace = e.stays.pace ∙ x.invariant.stays.pace;
+      plan = e.stays.plan ∙ x.invariant.stays.plan;
+      made =
+          towards_refused a.tick a.group.now x.group y.self a.log.now x.log y.log _ x.invariant e
+          k.0 (fault_told c.from_residual.result) k.1 (passed_on c.from_residual.result _ c.from_residual.ensures.1) (omega (arith, c.clock.ensures, c.loop-group-test.true));
+    }

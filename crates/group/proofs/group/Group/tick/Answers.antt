@@ -1,5 +1,6 @@
-use Rattle.std.proofs.Common.{◌<◌, ◌∙◌, arith}
+use Rattle.std.proofs.Common.{◌<◌, refl, ◌∙◌, arith}
 use Rattle.std.proofs.lemmas.Bool.Decides.{nat_tests}
+use Rattle.slots.proofs.Growing.{extends_refl}
 use Rattle.protocol.specs.Answers.{told}
 use Rattle.protocol.specs.Views.{play}
 use Rattle.protocol.proofs.Quiet.{quiet_later}
@@ -8,12 +9,14 @@ use Rattle.group.proofs.Safe.{sane_at, sane_ticked}
 use Rattle.group.proofs.Towards.{handed_on}
 use Rattle.group.proofs.group.Group.tick.Goals as goal
 
-pub returns-in_err-ask_quiet_tick-clause-did : goal.returns-in_err-ask_quiet_tick-clause-did
-returns-in_err-ask_quiet_tick-clause-did g c =
+pub returns-in_err-ask_quiet_tick : goal.returns-in_err-ask_quiet_tick
+returns-in_err-ask_quiet_tick g c =
     let me = c.args.self.now in
+    let l = c.args.log.now in
     let handed = handed_on c.from_residual.result c.in_err-ask_quiet_tick.field-0.0 c.from_residual.ensures.1 in
-    refused_quietly (g.P.Pace.means me.pace) me.plan me.table c.args.log.now me.quiet_until c.if-self.true me.quiet
-    (told c.from_residual.result) handed.1 (handed.0 ∙ c.in_err-ask_quiet_tick.ensures.number) handed.2
+    let h = refused_quietly (g.P.Pace.means me.pace) me.plan me.table l me.quiet_until c.if-self.true me.quiet
+    (told c.from_residual.result) handed.1 (handed.0 ∙ c.in_err-ask_quiet_tick.ensures.number) handed.2 in
+    record { stays = record { pace = refl; plan = refl; extends = extends_refl l }; number = h.number; after = h.after }
 
 pub invariant_of-self-then-self : goal.invariant_of-self-then-self
 invariant_of-self-then-self g c =
@@ -34,7 +37,9 @@ invariant_of-self-else-self g c =
       quiet = c.next_due-self.ensures.until;
     }
 
-pub returns-in_ok-ask_quiet_tick-clause-did : goal.returns-in_ok-ask_quiet_tick-clause-did
-returns-in_ok-ask_quiet_tick-clause-did g c =
+pub returns-in_ok-ask_quiet_tick : goal.returns-in_ok-ask_quiet_tick
+returns-in_ok-ask_quiet_tick g c =
     let me = c.args.self.now in
-    counted_quietly (g.P.Pace.means me.pace) me.plan me.table c.args.log.now me.quiet_until c.if-self.true me.quiet c.in_ok-ask_quiet_tick.ensures.number
+    let l = c.args.log.now in
+    let h = counted_quietly (g.P.Pace.means me.pace) me.plan me.table l me.quiet_until c.if-self.true me.quiet c.in_ok-ask_quiet_tick.ensures.number in
+    record { stays = record { pace = refl; plan = refl; extends = extends_refl l }; number = h.number; after = h.after }

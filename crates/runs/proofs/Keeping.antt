@@ -1,0 +1,48 @@
+-- A run goes on.
+use Rattle.std.proofs.Common.{◌≡◌, ℕ, ◌-◌, List, [], ◌∷◌, ◌++◌, replicate, Result, sym, subst}
+use mathlib.Core.Logic.{∥∥₁_map}
+use Rattle.pace.specs.Meaning.{Lawful}
+use Rattle.pace.specs.declared.meaning.Pace.{Ghosts}
+use Rattle.slots.specs.declared.SlotList.{SlotList}
+use Rattle.protocol.specs.declared.happening.Happening.{Happening}
+use Rattle.protocol.specs.declared.call.Call.{Call}
+use Rattle.protocol.specs.declared.call.Call.TheVariants.{Tick}
+use Rattle.protocol.specs.declared.call.Step.{Step}
+use Rattle.protocol.specs.declared.refusal.Refusal.{Refusal}
+use Rattle.protocol.specs.Group.{Play, opened}
+use Rattle.protocol.proofs.Rehearsal.{then, keeps}
+use Rattle.group.specs.declared.group.Group.{Group}
+use Rattle.group.specs.Does.{Rules, rules, state, Stays, Does}
+use Rattle.group.proofs.Staying.{same_rules}
+use Rattle.group.specs.Advance.{WentOn}
+use Rattle.runs.specs.Runs.{IsRun, Leads}
+use Rattle.runs.proofs.Answering.{makes_run}
+
+module _ {A : Type 0} {D : Ghosts A} where
+  -- a new group is a run
+  pub opens : (g : Group A D) (l : SlotList Happening) → Lawful (D.means g.pace) → state g l ≡ opened (D.means g.pace) g.plan → ∥ IsRun (rules g l) (state g l) ∥₁
+  opens g l sound e = let R = rules g l in ∣ ([], keeps R.meaning R.plan R.room sound [] (state g l) e) ∣₁
+
+  -- some steps more
+  pub goes_on : (g g' : Group A D) (l l' : SlotList Happening) (steps : List Step) → Lawful (D.means g.pace) → Stays g g' l l' →
+      Leads (rules g l) (state g l) steps (state g' l') → ∥ IsRun (rules g l) (state g l) ∥₁ → ∥ IsRun (rules g' l') (state g' l') ∥₁
+  goes_on g g' l l' steps sound stays leads run =
+      let R = rules g l in
+      let on = λ (r : IsRun R (state g l)).
+      let all = r.0 ++ steps in
+      subst (λ (Q : Rules). IsRun Q (state g' l')) (sym (same_rules g g' l l' stays))
+      (all, keeps R.meaning R.plan R.room sound all (state g' l') (then R.meaning R.plan R.room (opened R.meaning R.plan) r.0 (state g l) steps (state g' l') r.1.by_the_rules leads)) in
+      ∥∥₁_map run on
+
+  -- a call more
+  pub goes_on_by : (g g' : Group A D) (l l' : SlotList Happening) (call : Call) (answer : Result (Unit {0}) Refusal) → Lawful (D.means g.pace) →
+      Does call g g' l l' answer → ∥ IsRun (rules g l) (state g l) ∥₁ → ∥ IsRun (rules g' l') (state g' l') ∥₁
+  goes_on_by g g' l l' call answer sound h = goes_on g g' l l' (record { call = call; answer = answer } ∷ []) sound h.stays (h.number, h.after)
+
+  -- ticks more
+  pub went_on : (until : ℕ) (g g' : Group A D) (l l' : SlotList Happening) (answer : Result (Unit {0}) Refusal) → Lawful (D.means g.pace) →
+      WentOn until g g' l l' answer → ∥ IsRun (rules g l) (state g l) ∥₁ → ∥ IsRun (rules g' l') (state g' l') ∥₁
+  went_on until g g' l l' answer sound h =
+      let R = rules g l in
+      let made = makes_run R.meaning R.plan R.room (replicate (until - g.table.clock) Tick) (state g l) in
+      goes_on g g' l l' made.steps sound h.stays (subst (λ (s : Play). Leads R (state g l) made.steps s) (sym h.after) made.by_the_rules)
