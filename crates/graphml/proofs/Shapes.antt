@@ -1,10 +1,9 @@
 -- Where the elements of the file may stand, and what holds of each of them; what is written of a forest keeps both.
-use Rattle.std.proofs.Common.{◌≡◌, ℕ, zero, suc, ◌+◌, ◌-◌, Bool, true, cond, leb, List, [], ◌∷◌, refl, ap, arith, leb-true}
+use Rattle.std.proofs.Common.{◌≡◌, ℕ, zero, suc, ◌+◌, ◌-◌, Bool, cond, leb, List, [], ◌∷◌, refl}
 use Rattle.protocol.specs.declared.happening.Happening.{Happening}
 use Rattle.graphml.specs.Elements.{spelling, Tag, run, node, graph, happened, edge}
-use Rattle.graphml.specs.State.{State, drawn}
 use Rattle.graphml.specs.Body.{is_owned, is_arrival, arrival_edge, lines_of, parties_from, body}
-use Rattle.markup.proofs.Kept.{chosen, kept_whole}
+use Rattle.markup.proofs.Kept.{chosen}
 use Rattle.markup.specs.Cut.{size, cost, kept, all_fits}
 use Rattle.markup.specs.Forests.{Forest, none, element}
 
@@ -66,9 +65,3 @@ parties_shaped log i (suc m) =
 
 pub body_shaped : (log : List Happening) (n : ℕ) → Shaped in_run (body log n)
 body_shaped log n = parties_shaped log 0 (n + 1)
-
-pub room_left : (s : State) (t : Tag) (i : Forest Tag) → all_fits spelling s.room (element t i none) ≡ true → (drawn s (element t i none)).room ≡ s.room - size spelling t - cost spelling i
-room_left s t i p =
-    let h = leb-true _ _ p in
-    let e = ap (cost spelling) (kept_whole spelling s.room (element t i none) h) in
-    omega arith

@@ -35,7 +35,7 @@ length_head = refl
 
 -- the writer before the first byte
 abbrev pub empty : ℕ → List ℕ → State
-empty lent out = record { lent = lent; bytes = out; at = 0; room = length out - 275; happenings = 0; edges = 0 }
+empty lent out = record { out = record { lent = lent; bytes = out; at = 0; room = length out - 275 }; happenings = 0; edges = 0 }
 
 module _ (out : List ℕ) (log : List Happening) (n : ℕ) (h : 275 ≤ length out) where
   abbrev fit : Forest Tag
@@ -45,11 +45,11 @@ module _ (out : List ℕ) (log : List Happening) (n : ℕ) (h : 275 ≤ length o
   text = in_frame fit
 
   pub record Finished (lent : ℕ) (s : State) : Type 0 where
-    pub bytes : s.bytes ≡ over text out
-    pub at : s.at ≡ length text
+    pub bytes : s.out.bytes ≡ over text out
+    pub at : s.out.at ≡ length text
     pub happenings : s.happenings ≡ count is_happening fit
     pub edges : s.edges ≡ count is_edge fit
-    pub same : s.lent ≡ lent
+    pub same : s.out.lent ≡ lent
 
   pub finished : {lent : ℕ} {s t u : State} → s ≡ wrote (empty lent out) head → t ≡ drawn s (body log n) → u ≡ wrote t tail → Finished lent u
   finished {lent} {s} {t} {u} p q r =
@@ -73,9 +73,9 @@ module _ (out : List ℕ) (log : List Happening) (n : ℕ) (h : 275 ≤ length o
   abbrev done : Result Exported Refusal
   done = Ok (summary fit (all_fits spelling (length out - 275) (body log n)))
 
-  pub answered : {lent : ℕ} {s u : State} {r : Bool} → s ≡ wrote (empty lent out) head → r ≡ all_fits spelling s.room (body log n) → Finished lent u → ◌≡◌ {A = Result Exported Refusal} (Ok (record { bytes = u.at; happenings = u.happenings; edges = u.edges; whole = r })) (exported log n (length out))
+  pub answered : {lent : ℕ} {s u : State} {r : Bool} → s ≡ wrote (empty lent out) head → r ≡ all_fits spelling s.out.room (body log n) → Finished lent u → ◌≡◌ {A = Result Exported Refusal} (Ok (record { bytes = u.out.at; happenings = u.happenings; edges = u.edges; whole = r })) (exported log n (length out))
   answered p w f =
-      let all = w ∙ ap (λ x. all_fits spelling x.room (body log n)) p in
+      let all = w ∙ ap (λ x. all_fits spelling x.out.room (body log n)) p in
       ◌∙◌ {b = done} (λ i. Ok (record { bytes = f.at i; happenings = f.happenings i; edges = f.edges i; whole = all i }))
       (sym (ap (λ b. cond b done (Err ShortOutput)) enough))
 
@@ -139,6 +139,6 @@ module _ (out : List ℕ) (log : List Happening) (n : ℕ) (h : 275 ≤ length o
     }
 
     pub shown : {out' : List ℕ} {lent : ℕ} {u : State} {r : Bool} → out' ≡ over text out → Finished lent u → r ≡ whole →
-        ShowsTheLog n log (record { bytes = u.at; happenings = u.happenings; edges = u.edges; whole = r }) (take u.at out')
+        ShowsTheLog n log (record { bytes = u.out.at; happenings = u.happenings; edges = u.edges; whole = r }) (take u.out.at out')
     shown {out'} {lent} {u} {r} e f w =
         subst₂ (ShowsTheLog n log) (sym (λ i. record { bytes = f.at i; happenings = f.happenings i; edges = f.edges i; whole = w i })) (sym (front e f.at)) shown_text

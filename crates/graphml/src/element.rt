@@ -5,12 +5,14 @@ ghost use Rattle.std.specs.Prelude.{◌≡◌, is_ok, if◌then◌else◌};
 ghost use Rattle.graphml.specs.Texts.{head, tail, node_line, node_end, graph_line, graph_end};
 ghost use Rattle.graphml.specs.Elements.{spelling, happened, edge};
 ghost use Rattle.graphml.specs.Numbers.{Fits};
-ghost use Rattle.graphml.specs.State.{state, Sound, wrote, opened, has_room, drawn};
+ghost use Rattle.graphml.specs.State.{state, Sound, wrote, opened, drawn};
+ghost use Rattle.markup.specs.Held.{has_room};
 ghost use Rattle.markup.specs.Cut.{all_fits, kept};
 ghost use Rattle.markup.specs.Forests.{one, Each};
 
 use super::lines;
-use super::output::{Cut, Output};
+use super::output::{RunOutput, begin, write};
+use markup::output::Cut;
 use protocol::happening::Happening;
 
 const HEAD: &[u8] =
@@ -36,73 +38,73 @@ pub(crate) struct PartyGraph {
 impl RunGraph {
     // The frame's first lines, with bytes set aside for its last ones.
     #[tactic(auto, unfolding(crate::specs::Texts::head))]
-    pub(crate) fn open(out: &mut Output) -> RunGraph
+    pub(crate) fn open(out: &mut RunOutput) -> RunGraph
         requires { Sound (state out.old) 275 }
         ensures after { state out.new ≡ wrote (state out.old) head }
         ensures sound { Sound (state out.new) 20 }
     {
-        out.write(HEAD);
+        write(out, HEAD);
         RunGraph { open: () }
     }
 
     // A party's node, or the token back where it does not fit.
-    pub(crate) fn open_node(self, out: &mut Output, party: u16) -> Result<PartyNode, RunGraph>
+    pub(crate) fn open_node(self, out: &mut RunOutput, party: u16) -> Result<PartyNode, RunGraph>
         requires { Sound (state out.old) 20 }
-        ensures room { is_ok result ≡ has_room (state out.old) (node_line party) 8 }
+        ensures room { is_ok result ≡ has_room (state out.old).out (node_line party) 8 }
         ensures after { state out.new ≡ (if is_ok result then opened (state out.old) (node_line party) 8 else state out.old) }
         ensures sound { Sound (state out.new) (if is_ok result then 28 else 20) }
     {
-        match out.begin(lines::node_line(party).as_slice(), 8) {
+        match begin(out, lines::node_line(party).as_slice(), 8) {
             Ok(()) => Ok(PartyNode { outer: self }),
             Err(Cut) => Err(self),
         }
     }
 
     // An edge, if it fits.
-    pub(crate) fn edge(&self, out: &mut Output, source: usize, target: usize) -> Result<(), Cut>
+    pub(crate) fn edge(&self, out: &mut RunOutput, source: usize, target: usize) -> Result<(), Cut>
         requires { Sound (state out.old) 20 }
-        ensures whole { is_ok result ≡ all_fits spelling out.old.room (one (edge source target)) }
+        ensures whole { is_ok result ≡ all_fits spelling (state out.old).out.room (one (edge source target)) }
         ensures after { state out.new ≡ drawn (state out.old) (one (edge source target)) }
-        ensures numbers { Each Fits (kept spelling out.old.room (one (edge source target))) }
+        ensures numbers { Each Fits (kept spelling (state out.old).out.room (one (edge source target))) }
         ensures sound { Sound (state out.new) 20 }
     {
-        out.begin(lines::edge_line(source, target).as_slice(), 0)?;
-        out.edges += 1;
+        begin(out, lines::edge_line(source, target).as_slice(), 0)?;
+        out.counts.edges += 1;
         Ok(())
     }
 
     #[tactic(auto, unfolding(crate::specs::Texts::tail))]
-    pub(crate) fn close(self, out: &mut Output)
+    pub(crate) fn close(self, out: &mut RunOutput)
         requires { Sound (state out.old) 20 }
         ensures { state out.new ≡ wrote (state out.old) tail }
     {
         let RunGraph { open: () } = self;
-        out.write(TAIL);
+        write(out, TAIL);
     }
 }
 
 impl PartyNode {
     // The party's inner graph, or the token back where it does not fit. One body for this and `open_node` would take the line,
     // the closing and both tokens' types from its caller, and be no plainer.
-    pub(crate) fn open_graph(self, out: &mut Output, party: u16) -> Result<PartyGraph, PartyNode>
+    pub(crate) fn open_graph(self, out: &mut RunOutput, party: u16) -> Result<PartyGraph, PartyNode>
         requires { Sound (state out.old) 28 }
-        ensures room { is_ok result ≡ has_room (state out.old) (graph_line party) 9 }
+        ensures room { is_ok result ≡ has_room (state out.old).out (graph_line party) 9 }
         ensures after { state out.new ≡ (if is_ok result then opened (state out.old) (graph_line party) 9 else state out.old) }
         ensures sound { Sound (state out.new) (if is_ok result then 37 else 28) }
     {
-        match out.begin(lines::graph_line(party).as_slice(), 9) {
+        match begin(out, lines::graph_line(party).as_slice(), 9) {
             Ok(()) => Ok(PartyGraph { outer: self }),
             Err(Cut) => Err(self),
         }
     }
 
-    pub(crate) fn close(self, out: &mut Output) -> RunGraph
+    pub(crate) fn close(self, out: &mut RunOutput) -> RunGraph
         requires { Sound (state out.old) 28 }
         ensures after { state out.new ≡ wrote (state out.old) node_end }
         ensures sound { Sound (state out.new) 20 }
     {
         let PartyNode { outer } = self;
-        out.write(b"</node>\n");
+        write(out, b"</node>\n");
         outer
     }
 }
@@ -111,28 +113,28 @@ impl PartyGraph {
     // A happening, if it fits. Only `?` and a counter would be shared with `edge`, and only a move between the closings.
     pub(crate) fn happening(
         &self,
-        out: &mut Output,
+        out: &mut RunOutput,
         place: usize,
         happening: &Happening,
     ) -> Result<(), Cut>
         requires { Sound (state out.old) 37 }
-        ensures whole { is_ok result ≡ all_fits spelling out.old.room (one (happened place happening.now)) }
+        ensures whole { is_ok result ≡ all_fits spelling (state out.old).out.room (one (happened place happening.now)) }
         ensures after { state out.new ≡ drawn (state out.old) (one (happened place happening.now)) }
-        ensures numbers { Each Fits (kept spelling out.old.room (one (happened place happening.now))) }
+        ensures numbers { Each Fits (kept spelling (state out.old).out.room (one (happened place happening.now))) }
         ensures sound { Sound (state out.new) 37 }
     {
-        out.begin(lines::happening_line(place, happening).as_slice(), 0)?;
-        out.happenings += 1;
+        begin(out, lines::happening_line(place, happening).as_slice(), 0)?;
+        out.counts.happenings += 1;
         Ok(())
     }
 
-    pub(crate) fn close(self, out: &mut Output) -> PartyNode
+    pub(crate) fn close(self, out: &mut RunOutput) -> PartyNode
         requires { Sound (state out.old) 37 }
         ensures after { state out.new ≡ wrote (state out.old) graph_end }
         ensures sound { Sound (state out.new) 28 }
     {
         let PartyGraph { outer } = self;
-        out.write(b"</graph>\n");
+        write(out, b"</graph>\n");
         outer
     }
 }

@@ -8,20 +8,21 @@ ghost use Rattle.markup.specs.Forests.{none, Each};
 ghost use Rattle.graphml.specs.Elements.{spelling};
 
 use super::element::{PartyGraph, RunGraph};
-use super::output::{Cut, Output};
+use super::output::RunOutput;
+use markup::output::Cut;
 use protocol::happening::{Happening, HappeningKind};
 
 // The happenings of a party, in log order, up to the first that does not fit.
 fn write_happenings(
-    out: &mut Output,
+    out: &mut RunOutput,
     graph: &PartyGraph,
     log: &[Happening],
     party: u16,
 ) -> Result<(), Cut>
     requires { Sound (state out.old) 37 }
-    ensures whole { is_ok result ≡ all_fits spelling out.old.room (happenings_of party 0 log.now) }
+    ensures whole { is_ok result ≡ all_fits spelling (state out.old).out.room (happenings_of party 0 log.now) }
     ensures after { state out.new ≡ drawn (state out.old) (happenings_of party 0 log.now) }
-    ensures numbers { Each Fits (kept spelling out.old.room (happenings_of party 0 log.now)) }
+    ensures numbers { Each Fits (kept spelling (state out.old).out.room (happenings_of party 0 log.now)) }
     ensures sound { Sound (state out.new) 37 }
 {
     for (place, happening) in log.iter().enumerate() {
@@ -34,15 +35,15 @@ fn write_happenings(
 
 // A party with what is inside it, as far as it fits; the outer token comes back either way.
 fn write_party(
-    out: &mut Output,
+    out: &mut RunOutput,
     run: RunGraph,
     log: &[Happening],
     party: u16,
 ) -> Result<RunGraph, RunGraph>
     requires { Sound (state out.old) 20 }
-    ensures whole { is_ok result ≡ all_fits spelling out.old.room (party_then log.now party none) }
+    ensures whole { is_ok result ≡ all_fits spelling (state out.old).out.room (party_then log.now party none) }
     ensures after { state out.new ≡ drawn (state out.old) (party_then log.now party none) }
-    ensures numbers { Each Fits (kept spelling out.old.room (party_then log.now party none)) }
+    ensures numbers { Each Fits (kept spelling (state out.old).out.room (party_then log.now party none)) }
     ensures sound { Sound (state out.new) 20 }
 {
     let node = run.open_node(out, party)?;
@@ -60,11 +61,11 @@ fn write_party(
 }
 
 // An edge for each arrival, in log order, up to the first that does not fit.
-fn write_edges(out: &mut Output, run: &RunGraph, log: &[Happening]) -> Result<(), Cut>
+fn write_edges(out: &mut RunOutput, run: &RunGraph, log: &[Happening]) -> Result<(), Cut>
     requires { Sound (state out.old) 20 }
-    ensures whole { is_ok result ≡ all_fits spelling out.old.room (edges_from 0 log.now) }
+    ensures whole { is_ok result ≡ all_fits spelling (state out.old).out.room (edges_from 0 log.now) }
     ensures after { state out.new ≡ drawn (state out.old) (edges_from 0 log.now) }
-    ensures numbers { Each Fits (kept spelling out.old.room (edges_from 0 log.now)) }
+    ensures numbers { Each Fits (kept spelling (state out.old).out.room (edges_from 0 log.now)) }
     ensures sound { Sound (state out.new) 20 }
 {
     for (place, happening) in log.iter().enumerate() {
@@ -83,15 +84,15 @@ fn is_arrived(kind: HappeningKind) -> bool
 
 // The parties 0 to `parties`, and then the edges, as far as they fit; the token comes back either way.
 pub(crate) fn write_body(
-    out: &mut Output,
+    out: &mut RunOutput,
     mut run: RunGraph,
     log: &[Happening],
     parties: u8,
 ) -> Result<RunGraph, RunGraph>
     requires { Sound (state out.old) 20 }
-    ensures whole { is_ok result ≡ all_fits spelling out.old.room (body log.now parties) }
+    ensures whole { is_ok result ≡ all_fits spelling (state out.old).out.room (body log.now parties) }
     ensures after { state out.new ≡ drawn (state out.old) (body log.now parties) }
-    ensures numbers { Each Fits (kept spelling out.old.room (body log.now parties)) }
+    ensures numbers { Each Fits (kept spelling (state out.old).out.room (body log.now parties)) }
     ensures sound { Sound (state out.new) 20 }
 {
     for party in 0..=u16::from(parties) {

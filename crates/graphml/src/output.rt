@@ -1,44 +1,32 @@
-// The caller's bytes, and how many of them are written and set aside. They are lent: the export allocates nothing.
-ghost use Rattle.std.specs.Prelude.{◌≡◌, ◌+◌, ◌≤◌, length, is_ok, if◌then◌else◌};
-ghost use Rattle.graphml.specs.State.{state, wrote, opened, has_room};
+// The output of a run, with what is counted of it.
+ghost use Rattle.std.specs.Prelude.{◌≡◌, ◌+◌, ◌^◌, ◌<◌, ◌≤◌, true, length, is_ok, if◌then◌else◌};
+ghost use Rattle.markup.specs.Held.{has_room};
+ghost use Rattle.graphml.specs.State.{state, wrote, opened};
 
-use text::bytes::put;
+use markup::output::{Cut, Output};
 
-// `room` counts the bytes that are neither written nor set aside for the closings of what is open.
 #[derive(Drop)]
-pub(crate) struct Output<'a> {
-    pub(crate) bytes: &'a mut [u8],
-    pub(crate) at: usize,
-    pub(crate) room: usize,
+pub(crate) struct Counts {
     pub(crate) happenings: usize,
     pub(crate) edges: usize,
 }
 
-// What an element answers that did not fit: nothing more is written of the run but closings.
-#[derive(Clone, Copy, Debug, PartialEq, Eq)]
-pub(crate) struct Cut;
+pub(crate) type RunOutput<'a> = Output<'a, Counts>;
 
-impl Output<'_> {
-    // Text for which bytes were set aside.
-    pub(crate) fn write(&mut self, text: &[u8])
-        requires { self.old.at + length text.now ≤ length self.old.bytes.now }
-        ensures { state self.new ≡ wrote (state self.old) text.now }
-    {
-        self.at = put(self.bytes, self.at, text);
-    }
+// Text for which bytes were set aside.
+pub(crate) fn write(out: &mut RunOutput, text: &[u8])
+    requires { (state out.old).out.at + length text.now ≤ length (state out.old).out.bytes }
+    ensures { state out.new ≡ wrote (state out.old) text.now }
+{
+    out.write(text);
+}
 
-    // The opening of an element, if it and the closing fit.
-    pub(crate) fn begin(&mut self, opening: &[u8], closing: usize) -> Result<(), Cut>
-        requires { self.old.at + self.old.room ≤ length self.old.bytes.now }
-        ensures room { is_ok result ≡ has_room (state self.old) opening.now closing }
-        ensures after { state self.new ≡ (if is_ok result then opened (state self.old) opening.now closing else state self.old) }
-    {
-        let size = opening.len();
-        if closing > self.room || size > self.room - closing {
-            return Err(Cut);
-        }
-        self.room -= size + closing;
-        self.write(opening);
-        Ok(())
-    }
+// The opening of an element, if it and the closing fit.
+pub(crate) fn begin(out: &mut RunOutput, opening: &[u8], closing: usize) -> Result<(), Cut>
+    requires { (state out.old).out.at + (state out.old).out.room ≤ length (state out.old).out.bytes }
+    ensures room { is_ok result ≡ has_room (state out.old).out opening.now closing }
+    ensures after { state out.new ≡ (if is_ok result then opened (state out.old) opening.now closing else state out.old) }
+    ensures end { is_ok result ≡ true → (state out.new).out.at < 2 ^ 64 }
+{
+    out.begin(opening, closing)
 }

@@ -10,7 +10,8 @@ ghost use Rattle.graphml.specs.Elements.{spelling};
 use super::answer::{Exported, Refusal};
 use super::element::RunGraph;
 use super::graph::write_body;
-use super::output::Output;
+use super::output::Counts;
+use markup::output::Output;
 use protocol::happening::Happening;
 
 // The bytes of the frame.
@@ -35,8 +36,10 @@ pub(crate) fn write_run(log: &[Happening], parties: u8, out: &mut [u8]) -> Resul
         bytes: out,
         at: 0,
         room: size - FRAME,
-        happenings: 0,
-        edges: 0,
+        counts: Counts {
+            happenings: 0,
+            edges: 0,
+        },
     };
     let run = RunGraph::open(&mut w);
     let written = write_body(&mut w, run, log, parties);
@@ -45,8 +48,8 @@ pub(crate) fn write_run(log: &[Happening], parties: u8, out: &mut [u8]) -> Resul
     run.close(&mut w);
     Ok(Exported {
         bytes: w.at,
-        happenings: w.happenings,
-        edges: w.edges,
+        happenings: w.counts.happenings,
+        edges: w.counts.edges,
         whole,
     })
 }

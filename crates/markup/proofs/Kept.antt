@@ -1,8 +1,8 @@
 -- What is kept of a forest, element by element.
-use Rattle.std.proofs.Common.{◌≡◌, ℕ, ◌-◌, ◌≤◌, Bool, true, false, cond, leb, ◌++◌, length, sym, refl, ap, ◌∙◌, subst, ⊎_elim, arith, length-append, le-leb, leb-false, leb-true}
+use Rattle.std.proofs.Common.{◌≡◌, ℕ, ◌+◌, ◌-◌, ◌≤◌, Bool, true, false, cond, leb, ◌++◌, length, sym, refl, ap, ◌∙◌, subst, ⊎_elim, arith, length-append, le-leb, leb-false, leb-true}
 use borrow.Author.Tests.{lt-leb}
 use Rattle.std.proofs.lemmas.Bool.{cases_Bool}
-use Rattle.markup.specs.Forests.{Spelling, Forest, none, element, render, one, Each}
+use Rattle.markup.specs.Forests.{Spelling, Forest, none, element, render, one, count, Each}
 use Rattle.markup.specs.Cut.{size, cost, all_fits, kept}
 
 -- a choice has what both have
@@ -93,3 +93,42 @@ module _ {T : Type 0} (w : Spelling T) where
   -- one element alone
   pub one_each : (P : T → Type 0) (room : ℕ) (t : T) → P t → Each P (kept w room (one t))
   one_each P room t p = kept_each P room (one t) (p, tt, tt)
+
+  -- what is kept of an element that is not kept whole is all that is kept
+  pub kept_first : (room : ℕ) (t : T) (i a : Forest T) → all_fits w room (element t i none) ≡ false →
+      kept w room (element t i a) ≡ kept w room (element t i none)
+  kept_first room t i a p =
+      let h = leb-false _ _ p in
+      ⊎_elim
+      (λ x.
+      let k = leb-true _ _ x in
+      let y = lt-leb (cost w i) (room - size w t) (omega arith) in
+      kept_cut room t i a x y ∙ sym (kept_cut room t i none x y))
+      (λ x. kept_stop room t i a x ∙ sym (kept_stop room t i none x))
+      (cases_Bool (leb (size w t) room))
+
+  -- how much is counted of an element that is kept whole, and of what comes after it
+  pub count_on : (of : T → ℕ) (room : ℕ) (t : T) (i a : Forest T) → all_fits w room (element t i none) ≡ true →
+      count of (kept w room (element t i a))
+      ≡ count of (kept w room (element t i none)) + count of (kept w (room - size w t - cost w i) a)
+  count_on of room t i a p =
+      let h = leb-true _ _ p in
+      let on = le-leb (size w t) room (omega arith) in
+      let all = le-leb (cost w i) (room - size w t) (omega arith) in
+      let x = ap (count of) (kept_on room t i a on all) in
+      let y = ap (count of) (kept_whole room (element t i none) h) in
+      omega arith
+
+  -- and of one that is begun
+  pub count_begun : (of : T → ℕ) (room : ℕ) (t : T) (i : Forest T) → leb (size w t) room ≡ true →
+      count of (kept w room (element t i none)) ≡ of t + count of (kept w (room - size w t) i)
+  count_begun of room t i p =
+      let left : ℕ = room - size w t in
+      ⊎_elim
+      (λ x.
+      let h = leb-true _ _ x in
+      let y = ap (count of) (kept_on room t i none p x) in
+      let z = ap (count of) (kept_whole left i h) in
+      omega arith)
+      (λ x. let y = ap (count of) (kept_cut room t i none p x) in omega arith)
+      (cases_Bool (all_fits w left i))

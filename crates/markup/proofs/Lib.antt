@@ -1,4 +1,5 @@
 pub mod Kept
+pub mod Filling
 pub mod Ending
 pub mod Digits
 pub mod Joined

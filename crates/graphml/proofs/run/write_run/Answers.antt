@@ -18,11 +18,11 @@ returns c =
     let h : 275 ≤ length out = omega arith in
     let f = finished out log n h c.open-run.ensures.after c.write_body-written.ensures.after c.close.ensures in
     let told = c.is_ok-whole.ensures.value ∙ c.write_body-written.ensures.whole in
-    let all = sym (told ∙ ap (λ x. all_fits spelling x.room (body log n)) c.open-run.ensures.after) in
+    let all = sym (told ∙ ap (λ x. all_fits spelling x.out.room (body log n)) c.open-run.ensures.after) in
     let end : c.close.new.out.bytes.now ≡ over (in_frame (part log n (length out))) out = f.bytes in
     let left : c.close.new.out.bytes.now ≡ written log n out = left_as_written out log n h end in
     let same = f.same in
-    let numbers : Each Fits (part log n (length out)) = subst (λ (s : State). Each Fits (kept spelling s.room (body log n))) c.open-run.ensures.after c.write_body-written.ensures.numbers in
+    let numbers : Each Fits (part log n (length out)) = subst (λ (s : State). Each Fits (kept spelling s.out.room (body log n))) c.open-run.ensures.after c.write_body-written.ensures.numbers in
     record {
       answer = answered out log n h c.open-run.ensures.after told f;
       bytes = search rules;

@@ -1,11 +1,23 @@
-use Rattle.std.proofs.Common.{◌∙◌, arith}
+use Rattle.std.proofs.Common.{◌<◌, ◌+◌, ◌∙◌, refl, arith}
 use Rattle.graphml.specs.Texts.{happening_line}
 use Rattle.graphml.proofs.Sounds.{counted}
 use Rattle.graphml.proofs.Words.{some_happening}
 use Rattle.graphml.proofs.element.PartyGraph.happening.Goals as goal
+use Rattle.graphml.specs.State.{state, Sound}
+use Rattle.graphml.proofs.element.PartyGraph.happening.Goals.{In_ok-begin}
+
+one_more : (c : In_ok-begin) → Sound (state c.begin.new.out) 37 × ((state c.begin.new.out).happenings + (state c.begin.new.out).edges < (state c.begin.new.out).out.at)
+one_more c =
+    let told = c.in_ok-begin.ensures in
+    counted (happening_line c.args.place c.args.happening.now) 37 (c.as_slice.ensures.text ∙ c.happening_line.ensures.line) (some_happening c.args.place c.args.happening.now) told.room told.after c.requires
+
+pub overflow_add-out : goal.overflow_add-out
+overflow_add-out c =
+    let few = (one_more (goal.at.overflow_add-out c).In_ok-begin).1 in
+    let end = (goal.at.overflow_add-out c).In_ok-begin.in_ok-begin.ensures.end refl in
+    omega arith
 
 pub returns-clause-sound : goal.returns-clause-sound
 returns-clause-sound c =
-    let told = c.in_ok-begin.ensures in
-    let h = counted (happening_line c.args.place c.args.happening.now) 37 (c.as_slice.ensures.text ∙ c.happening_line.ensures.line) (some_happening c.args.place c.args.happening.now) told.room told.after c.requires in
+    let h = one_more (goal.at.returns-clause-sound c).In_ok-begin in
     record { fits = h.0.fits; few = omega arith }
