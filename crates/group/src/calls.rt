@@ -1,5 +1,5 @@
-// The calls of a group. Each puts its questions first; a refusal changes nothing. Two that look alike share two lines, and each has a contract of its own.
-// That pace and plan stay is part of each contract, since no ghost field can tell what a value was before a call.
+// The calls of a group. Each puts its questions first; a refusal changes nothing. That pace and plan
+// stay is part of each contract, since no ghost field can tell what a value was before a call.
 ghost use Rattle.protocol.specs.declared.call.Call.TheVariants.{Tick, Deliver, Lose, Crash, Join, Leave};
 ghost use Rattle.group.specs.Advance.{WentOn};
 ghost use Rattle.group.specs.Does.{Does};

@@ -28,7 +28,8 @@ pub record DoesAll {A : Type 0} {d : Ghosts A} (g g' : Group A d) (l l' : SlotLi
   pub calls : map call_of steps' ≡ map call_of steps
   pub leads : Leads (rules g l) (state g l) steps' (state g' l')
 
--- a run of those calls by the rules: there are steps, each a call with its answer, that lead from s to s'
+-- a run of those calls by the rules: there are steps, each a call with its answer, that lead
+-- from s to s'
 pub record RunOf (m : Meaning) (plan : Plan) (room : ℕ) (calls : List Call)
     (s s' : Play) : Type 0 where
   pub steps : List Step

@@ -16,8 +16,8 @@ use slots::SlotList;
 
 /// A group and the log in the slots lent to it, after some calls from the opening on.
 ///
-/// The fields are open, so that an export or a look borrows them one by one: whoever changes one owes
-/// the promise, which the calls here keep.
+/// The fields are open, so that an export or a look borrows them one by one. Whoever changes one
+/// owes the promise, which the calls here keep.
 #[derive(Drop)]
 pub struct Run<'a, P: Pace> {
     pub group: Group<P>,
@@ -48,8 +48,8 @@ impl<'a, P: Pace> Run<'a, P> {
         self.group.perform(&mut self.log, call)
     }
 
-    /// Ticks until the clock is `until`, or the next tick would be refused; as `Group::advance`, it answers
-    /// a refusal of its first tick only.
+    /// Ticks until the clock is `until`, or the next tick would be refused; as `Group::advance`, it
+    /// answers a refusal of its first tick only.
     pub fn advance(&mut self, until: u32) -> Result<(), Refusal>
         ensures { WentOn until self.old.group self.new.group self.old.log self.new.log result }
     {
@@ -58,13 +58,14 @@ impl<'a, P: Pace> Run<'a, P> {
 
     /// Makes every call in turn, refused or not, and puts each answer beside it.
     pub fn make_all(&mut self, steps: &mut [Step])
-        ensures { DoesAll self.old.group self.new.group self.old.log self.new.log steps.old steps.new }
+        ensures { DoesAll self.old.group self.new.group self.old.log self.new.log
+            steps.old steps.new }
     {
         make_all(&mut self.group, &mut self.log, steps);
     }
 
     /// Nothing to run: the contract is what every run keeps, whatever calls led to it.
     pub fn keeps_the_rules(&self)
-        ensures { ∥ IsRun (rules self.now.group self.now.log) (state self.now.group self.now.log) ∥₁ }
+        ensures { let r = self.now in ∥ IsRun (rules r.group r.log) (state r.group r.log) ∥₁ }
     {}
 }
