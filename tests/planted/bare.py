@@ -5,9 +5,9 @@ import pathlib
 import re
 
 # the crates whose definitions the worked examples read, and the crate of the examples
-CRATES = ["pace", "slots", "protocol", "text", "markup", "graphml", "orders", "player", "handplayed"]
-# files of specs/ with lemmas that ghost members cite
-LEMMAS = ["Fronts", "Halves", "Falling", "Allowed", "Phases"]
+CRATES = ["pace", "slots", "protocol", "group", "runs", "text", "markup", "graphml", "orders", "player", "handplayed"]
+# a file and a folder of specs/ with lemmas that ghost members cite
+LEMMAS = ["laws"]
 STRING = re.compile(r'b?"(?:[^"\\]|\\.)*"')
 CODE = re.compile(r"(?:pub(?:\([a-z]+\))? )?(?:const )?fn |impl\b(?!.*\bModel\b)|#\[cfg\(test\)\]")
 
@@ -51,13 +51,13 @@ def bare(text):
         code = first_code(item)
         if CODE.match(code):
             continue
-        use = re.match(r"(?:ghost |pub )?use (?:Rattle\.)?(\w+)", code)
+        use = re.match(r"(?:ghost |pub |pub\(crate\) )?use (?:Rattle\.)?(\w+)", code)
         if not use:
             types = types or not re.match(r"(?:pub )?mod ", code)
             kept.append(item)
         elif use[1] in CRATES + ["std", "crate", "self", "super"] and not any(f".{lemmas}." in code for lemmas in LEMMAS):
             kept.append(item if code.startswith("ghost ") else only_types(item))
-    left = "".join(item for item in kept if types or not re.match(r"(?:ghost )?use ", first_code(item)))
+    left = "".join(item for item in kept if types or not re.match(r"(?:ghost |pub |pub\(crate\) )?use ", first_code(item)))
     return re.sub(r"(?m)^ *#\[(?:derive\(.*\)|default)\]\n", "", left)
 
 
@@ -67,7 +67,7 @@ def in_one(text, crate):
     text = re.sub(rf"\bRattle\.({crates})\.specs\.declared\.", r"Rattle.bare.specs.declared.\1.", text)
     text = re.sub(rf"\bRattle\.({crates})\.(specs|proofs)\.", r"Rattle.bare.\2.\1.", text)
     text = re.sub(r"\bcrate::", f"crate::{crate}::", text)
-    return re.sub(rf"(?m)^((?:pub )?use )({crates})::", r"\1crate::\2::", text).replace("#![tactic(auto)]\n", "")
+    return re.sub(rf"(?m)^((?:pub |pub\(crate\) )?use )({crates})::", r"\1crate::\2::", text).replace("#![tactic(auto)]\n", "")
 
 
 def place(work, file):
@@ -92,7 +92,7 @@ def make(crates, work):
     """One crate, of which each crate is a module, with the table's fact."""
     for crate in CRATES:
         for path in [*(crates / crate / "specs").rglob("*.antt"), *(crates / crate / "src").rglob("*.rt")]:
-            if path.stem in LEMMAS:
+            if path.suffix == ".antt" and any(part in LEMMAS for part in path.with_suffix("").parts):
                 continue
             if crate != "handplayed" or path.suffix == ".antt" or path.name in ("lib.rt", "worked.rt"):
                 put(work, str(path.relative_to(crates)), re.sub(r"#\[cfg\(test\)\]\nmod \w+;\n", "", path.read_text()))
