@@ -15,8 +15,11 @@ demo:
 build:
 	@bash tools/build.sh $(PROGRAMS)
 
-play:
+play: target/bin/compose target/bin/runfile
 	@python3 tools/play.py $(SCHEDULE)
+
+target/bin/%:
+	@bash tools/build.sh $*
 
 test:
 	@.ci/run

@@ -65,22 +65,23 @@ class Schedule:
         if status == 0:
             return orders
         found = COMPLAINT.search(complaint)
-        raise Refused((self.at(int(found[1])) if found else f"{self.path}: ") + complaint.strip())
+        raise Refused(self.at(int(found[1]) if found else 1) + complaint.strip())
 
     def graph_file(self):
         status, printed, complaint = run("runfile", self.order_file())
         if status == 0:
             return printed
-        found = SET_UP.fullmatch(printed.decode(errors="replace"))
-        if not found:
-            raise Refused(f"{self.path}: {complaint.strip()}")
-        raise Refused(self.at(self.start_line()) + because(int(found[1])))
+        found = SET_UP.fullmatch(complaint)
+        raise Refused(self.at(self.start_line()) + (because(int(found[1])) if found else complaint.strip()))
 
 
 def play(path, out):
     """Writes the file, and answers the line that is printed of it."""
     schedule = Schedule(path)
-    data = schedule.graph_file()
+    try:
+        data = schedule.graph_file()
+    except Refused as refused:
+        raise Refused(f"{refused}\n{out} was not written") from None
     out.write_bytes(data)
     try:
         summary = check_graphml.check(data)
