@@ -1,9 +1,10 @@
-# make demo                    plays the built-in task and prints what it does, before any proof: in under a minute
-# make demo FILE=x.orders      plays that order file in its place
-# make build                   proves and builds the programs into target/bin/; minutes the first time
-# make play SCHEDULE=x.txt     composes the text, plays it, and writes and checks x.graphml beside it
-# make test                    the gate: every proof, edit, program and test
-# make clean                   removes what was built
+# make demo                   plays the built-in task and prints what it does, with nothing proved:
+#                             in under a minute
+# make demo FILE=x.orders     plays that order file in its place
+# make build                  proves and builds the programs into target/bin/, in some minutes
+# make play SCHEDULE=x.txt    composes the text, plays it, and writes and checks x.graphml beside it
+# make test                   the gate: every proof, edit, program and test
+# make clean                  removes what was built
 
 PROGRAMS = compose runfile walkthrough
 

@@ -3,7 +3,8 @@
 #
 #     bash tools/build.sh compose runfile walkthrough
 #
-# The crates below a program are proved first, lowest first. What was proved before, and has not changed, takes seconds.
+# The crates below a program are proved first, lowest first. What was proved before, and has not
+# changed, takes seconds.
 set -eu
 cd "$(dirname "$0")/.."
 mkdir -p target/bin target/log
@@ -27,7 +28,9 @@ progress() {
     while IFS= read -r line; do
         printf '%s\n' "$line" >>"$1"
         case $line in
-            'checked '*' of '* | 'so far: '*) if [ -t 2 ]; then printf '\r\033[K%s  %s' "$2" "$line" >&2; fi ;;
+            'checked '*' of '* | 'so far: '*)
+                if [ -t 2 ]; then printf '\r\033[K%s  %s' "$2" "$line" >&2; fi
+                ;;
         esac
     done
     if [ -t 2 ]; then printf '\r\033[K' >&2; fi
@@ -49,7 +52,8 @@ for name in "${libraries[@]}" "$@"; do
     : >"$log"
     if [ -e "crates/$name/src/main.rt" ]; then
         echo "[$at/$total] $name: proving and building" >&2
-        # `rt run` runs what it has built, here with no input; what the program makes of that says nothing of the build.
+        # `rt run` runs what it has built, here with no input; what the program makes of that says
+        # nothing of the build.
         (cd "crates/$name" && rt run </dev/null 2>&1 || true) | progress "$log" "[$at/$total]"
         grep -q '^rt: running ' "$log" || fail "$log" "$name"
         cp "crates/$name/out/$name" target/bin/

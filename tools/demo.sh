@@ -1,8 +1,10 @@
 #!/usr/bin/env bash
-# Runs the walkthrough from its sources, with nothing proved: on its own task, or on the order file that is named.
+# Runs the walkthrough from its sources, with nothing proved: on its own task, or on the order file
+# that is named.
 set -eu
 echo 'demo: compiling the walkthrough, which takes some 20 to 60 seconds.' >&2
-echo 'demo: this run is not the proof; make build proves what it builds, and make test proves everything.' >&2
+echo 'demo: this run is not the proof; make build proves what it builds,' \
+    'and make test proves everything.' >&2
 
 if [ $# -gt 0 ]; then
     exec <"$1"

@@ -19,7 +19,8 @@ pub fn read_request(rt: &HostRuntime) -> io::Result<Request> {
     }
 }
 
-/// The first `most` bytes of standard input; none where that is a terminal, at which nobody types a file.
+/// The first `most` bytes of standard input; none where that is a terminal, at which nobody types
+/// a file.
 pub fn read_input(rt: &HostRuntime, most: u64) -> io::Result<Option<Vec<u8>>> {
     if rt.stdin().is_terminal() {
         return Ok(None);

@@ -50,7 +50,8 @@ fn tell_complaint(rt: &HostRuntime, text: &[u8], complaint: Complaint) -> io::Re
     Ok(status)
 }
 
-// A line for each order: its place, and the number of its line. The first line with words is the start's.
+// A line for each order: its place, and the number of its line. The first line with words is the
+// start's.
 fn write_map(rt: &HostRuntime, text: &[u8]) -> io::Result<()> {
     let mut out = BufWriter::new(rt.alloc(), io::writer(rt))?;
     for (place, line) in (0..ORDER_SLOTS).zip(RecordLines::new(text).skip(1)) {

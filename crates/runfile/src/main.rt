@@ -1,4 +1,5 @@
-// Plays the order file on standard input, and prints its run as a graph file with the notices behind it.
+// Plays the order file on standard input, and prints its run as a graph file with the notices
+// behind it.
 #![tactic(auto)]
 
 use commandline::front::{read_input, read_request, tell_failure, tell_help, tell_usage};

@@ -7,8 +7,8 @@ ghost use Rattle.schedule.specs.Maps.{has_words, record_lines, all_lines_behind,
 use crate::lines::Lines;
 use crate::words::Words;
 
-/// The numbers of the lines that have words, in rising order: of a text that composes the start's line is the
-/// first, and each later one is that of an order, in the orders' own order.
+/// The numbers of the lines that have words, in rising order: of a text that composes the start's
+/// line is the first, and each later one is that of an order, in the orders' own order.
 #[derive(Drop)]
 pub struct RecordLines<'a> {
     lines: Lines<'a>,

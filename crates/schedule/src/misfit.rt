@@ -21,7 +21,7 @@ pub struct Misfit<'a> {
     pub cause: Cause,
 }
 
-/// The first misfit on line `number` of a text, counted from 1; none where every word fits its place.
+/// The first misfit on line `number` of a text, counted from 1; none where every word fits.
 /// That line is read as the start's where no line before it has a word, and else as an order's.
 pub fn find_misfit(text: &[u8], number: usize) -> Option<Misfit<'_>>
     ensures first { option_map seen result ≡ misfit_at number false 0 (lines_in text.now) }
