@@ -16,14 +16,14 @@ use Rattle.protocol.specs.declared.table.Root.TheVariants.{Running, Down}
 use Rattle.protocol.specs.declared.kind.GroupKind.{GroupKind}
 use Rattle.protocol.specs.declared.happening.HappeningKind.TheVariants.{Sent, Arrived, Lost}
 use Rattle.protocol.specs.declared.happening.Happening.{Happening}
-use Rattle.protocol.specs.declared.plan.Plan.{Plan}
 use Rattle.protocol.specs.declared.call.Call.{Call}
 use Rattle.protocol.specs.declared.call.Call.TheVariants.{Tick, Deliver, Lose, Crash, Join, Leave}
 use Rattle.pace.specs.Meaning.{Meaning}
 use Rattle.protocol.specs.Patience.{trip, patience}
 use Rattle.protocol.specs.Walk.{folds, walks}
 use Rattle.protocol.specs.Party.{nobody, fresh, on_leg, off_leg, off_out, off_reply, off_entry, arrives, hears_as, heeds, joined, missed, sends, sends_as, on_roll, missed_all, times, times_as, times_live, calls_in, live}
-use Rattle.protocol.specs.Group.{Play, the, happens, tells_of, links, sender, answer_log, runs, delivered_as, lost_as, crashed, joins, leaves, any, shortest, counted, send_log, sent, stopped, started, settled_as, rounded_as, rounded, round_ends, live_word, tells_if, timer_log, timed, later, opened}
+use Rattle.protocol.specs.Rules.{Rules}
+use Rattle.protocol.specs.Group.{Play, the, happens, tells_of, links, sender, answer_log, runs, delivered_as, lost_as, crashed, joins, leaves, any, shortest, counted, send_log, sent, stopped, started, settled_as, rounded_as, rounded, round_ends, live_word, tells_if, timer_log, timed, later, opened, ticked}
 use Rattle.protocol.specs.Runs.{number, done, unless, perform, played}
 use Rattle.protocol.specs.Beats.{is_arrival, is_loss, settles, nothing, happening_at, SentBy, OtherEnd, Linked, LossesLinked, SettledOnce, Unsettled, Edge, edge, edges, PutBy}
 use Rattle.protocol.specs.Order.{InOrder}
@@ -48,9 +48,9 @@ delivery (Join i) k s = []
 delivery (Leave i) k s = []
 
 -- the edges of the deliveries of a run, told by making all its calls again
-abbrev pub deliveries : Meaning → Plan → ℕ → List Call → Play → List Edge
-deliveries m plan room [] s = []
-deliveries m plan room (call ∷ calls) s = delivery call (number plan room call s) s ++ deliveries m plan room calls (perform m plan room call s)
+abbrev pub deliveries : Rules → List Call → Play → List Edge
+deliveries rules [] s = []
+deliveries rules (call ∷ calls) s = delivery call (number rules call s) s ++ deliveries rules calls (perform rules call s)
 
 -- the parties and the length of the log at some moment before
 pub record Moment : Type 0 where
@@ -330,7 +330,13 @@ module _ (c : ℕ) where
   follows_turn false false true r b i p log = heeds_turn r b.parting i _ _ (off_entry p)
   follows_turn false false false r b i p log = stays i _ _ 2 p
 
-module _ (o : Moment) (n : ℕ) where
+module _ (o : Moment) (rules : Rules) where
+  abbrev n : ℕ
+  n = rules.plan.n
+
+  abbrev m : Meaning
+  m = rules.meaning
+
   abbrev Holds : Play → Type 0
   Holds s = Told o n s.table.clock s.table.parties s.log
 
@@ -390,13 +396,13 @@ module _ (o : Moment) (n : ℕ) where
       let w = told s.table.clock s.log (happens s.table.clock i _ (length s.log)) refl refl in
       onward s (leaves i s) (turns_one o n _ 0 i _ s.table.parties s.log _ lo hi w t (stays i _ _ 0 (the i s.table)), w)
 
-  joins_one : (m : Meaning) (i : ℕ) (s : Play) → 1 ≤ i → i ≤ n → Holds s → Next s (joins m i s) []
-  joins_one m i s lo hi t =
+  joins_one : (i : ℕ) (s : Play) → 1 ≤ i → i ≤ n → Holds s → Next s (joins rules i s) []
+  joins_one i s lo hi t =
       let c = s.table.clock in
       let joining = tells_of c i _ s.log in
       let w = further c s.log joining (tells_of c i Sent joining) (told c s.log _ refl refl) (told c joining _ refl refl) in
       let e = length_push s.log (happens c i _ (length s.log)) in
-      onward s (joins m i s) (
+      onward s (joins rules i s) (
         turns_one o n c 3 i (joined c (c + trip m) (length s.log + 1) (the i s.table)) s.table.parties s.log _ lo hi w t
             (put_entry i _ _ (the i s.table) _ (omega arith) (subst (SentBy (tells_of c i Sent joining) i) e (sent_push joining c i _))),
         w,
@@ -427,13 +433,13 @@ module _ (o : Moment) (n : ℕ) where
   stops s t =
       let w = told s.table.clock s.log (happens s.table.clock 0 _ (length s.log)) refl refl in (idles o n _ s.table.parties s.log _ w t, w)
 
-  settles_round : (b : Bool) (m : Meaning) (s : Play) → Holds s → Goes s (settled_as b m n s)
-  settles_round true m s t = stops s t
-  settles_round false m s t = starts (s.table.clock + trip m) (started (shortest m.waits m.tmax n s.table.parties) s) t
+  settles_round : (b : Bool) (s : Play) → Holds s → Goes s (settled_as b rules s)
+  settles_round true s t = stops s t
+  settles_round false s t = starts (s.table.clock + trip m) (started (shortest m.waits m.tmax n s.table.parties) s) t
 
-  rounds : (b : Bool) (m : Meaning) (s : Play) → Holds s → Goes s (rounded_as b m n s)
-  rounds true m s t = settles_round (any (missed_all (length m.waits)) n (counted n s).table.parties) m (counted n s) (counts s t).0
-  rounds false m s t = (t, stay s.table.clock s.log)
+  rounds : (b : Bool) (s : Play) → Holds s → Goes s (rounded_as b rules s)
+  rounds true s t = settles_round (any (missed_all (length m.waits)) n (counted n s).table.parties) (counted n s) (counts s t).0
+  rounds false s t = (t, stay s.table.clock s.log)
 
   times_all : (d l x : ℕ) (s : Play) → Holds s → Goes s (timed d l x n s)
   times_all d l x s t =
@@ -460,20 +466,20 @@ module _ (o : Moment) (n : ℕ) where
     long = t.long;
   }
 
-  ticks : (m : Meaning) (d : ℕ) (s : Play) → Holds s → Next s (later (timed d m.tmin (trip m) n (rounded m n s))) []
-  ticks m d s t =
-      let a = rounds (round_ends s.table) m s t in
-      let b = times_all d m.tmin (trip m) (rounded m n s) a.0 in
-      quietly s (later (timed d m.tmin (trip m) n (rounded m n s))) (ages _ _ _ b.0) (b.1.same ∙ a.1.same)
+  ticks : (s : Play) → Holds s → Next s (ticked rules s) []
+  ticks s t =
+      let a = rounds (round_ends s.table) s t in
+      let b = times_all (patience m rules.plan.kind) m.tmin (trip m) (rounded rules s) a.0 in
+      quietly s (ticked rules s) (ages _ _ _ b.0) (b.1.same ∙ a.1.same)
 
-module _ (m : Meaning) (plan : Plan) (room : ℕ) where
-  does : (o : Moment) (call : Call) (s : Play) → number plan room call s ≡ 0 → Holds o plan.n s → Next o plan.n s (done m plan call s) (delivery call 0 s)
-  does o Tick s e t = ticks o plan.n m (patience m plan.kind) s t
-  does o (Deliver i leg) s e t = let a = asked_party plan.n i _ e in delivers o plan.n (on_leg leg (the i s.table)) i leg s refl a.0 a.1 t
-  does o (Lose i leg) s e t = let a = asked_party plan.n i _ e in loses_one o plan.n (on_leg leg (the i s.table)) i leg s refl a.0 a.1 t
-  does o (Crash i) s e t = crashes_one o plan.n i s (asked_low plan.n i _ e) t
-  does o (Join i) s e t = let a = asked_party plan.n i _ e in joins_one o plan.n m i s a.0 a.1 t
-  does o (Leave i) s e t = let a = asked_party plan.n i _ e in leaves_one o plan.n i s a.0 a.1 t
+module _ (rules : Rules) where
+  does : (o : Moment) (call : Call) (s : Play) → number rules call s ≡ 0 → Holds o rules s → Next o rules s (done rules call s) (delivery call 0 s)
+  does o Tick s e t = ticks o rules s t
+  does o (Deliver i leg) s e t = let a = asked_party rules.plan.n i _ e in delivers o rules (on_leg leg (the i s.table)) i leg s refl a.0 a.1 t
+  does o (Lose i leg) s e t = let a = asked_party rules.plan.n i _ e in loses_one o rules (on_leg leg (the i s.table)) i leg s refl a.0 a.1 t
+  does o (Crash i) s e t = crashes_one o rules i s (asked_low rules.plan.n i _ e) t
+  does o (Join i) s e t = let a = asked_party rules.plan.n i _ e in joins_one o rules i s a.0 a.1 t
+  does o (Leave i) s e t = let a = asked_party rules.plan.n i _ e in leaves_one o rules i s a.0 a.1 t
 
   refused : (call : Call) (k : ℕ) (s : Play) → delivery call (suc k) s ≡ []
   refused Tick k s = refl
@@ -483,12 +489,12 @@ module _ (m : Meaning) (plan : Plan) (room : ℕ) where
   refused (Join i) k s = refl
   refused (Leave i) k s = refl
 
-  performs : (o : Moment) (call : Call) (s : Play) (k : ℕ) → number plan room call s ≡ k → Holds o plan.n s → Next o plan.n s (unless k s (done m plan call s)) (delivery call k s)
+  performs : (o : Moment) (call : Call) (s : Play) (k : ℕ) → number rules call s ≡ k → Holds o rules s → Next o rules s (unless k s (done rules call s)) (delivery call k s)
   performs o call s zero e t = does o call s e t
   performs o call s (suc k) e t = (t, sym (append-nil (edges 0 s.log)) ∙ ap (λ es. edges 0 s.log ++ es) (sym (refused call k s)))
 
   -- what holds since any moment holds since the present one
-  holds_now : (o : Moment) (s : Play) → Holds o plan.n s → Holds (at s) plan.n s
+  holds_now : (o : Moment) (s : Play) → Holds o rules s → Holds (at s) rules s
   holds_now o s t = record {
     since = omega arith;
     older = λ k leg b h e. inl e;
@@ -503,20 +509,20 @@ module _ (m : Meaning) (plan : Plan) (room : ℕ) where
   }
 
   abbrev Now : Play → Type 0
-  Now s = Holds (at s) plan.n s
+  Now s = Holds (at s) rules s
 
-  plays : (calls : List Call) (s : Play) → Now s → let s' = played m plan room calls s in Now s' × (edges 0 s'.log ≡ edges 0 s.log ++ deliveries m plan room calls s)
+  plays : (calls : List Call) (s : Play) → Now s → let s' = played rules calls s in Now s' × (edges 0 s'.log ≡ edges 0 s.log ++ deliveries rules calls s)
   plays [] s t = (t, sym (append-nil (edges 0 s.log)))
   plays (call ∷ calls) s t =
-      let k = number plan room call s in
-      let s' = perform m plan room call s in
+      let k = number rules call s in
+      let s' = perform rules call s in
       let a = performs (at s) call s k refl t in
       let b = plays calls s' (holds_now (at s) s' a.0) in
-      (b.0, b.1 ∙ ap (λ es. es ++ deliveries m plan room calls s') a.1 ∙ append_assoc (edges 0 s.log) (delivery call k s) (deliveries m plan room calls s'))
+      (b.0, b.1 ∙ ap (λ es. es ++ deliveries rules calls s') a.1 ∙ append_assoc (edges 0 s.log) (delivery call k s) (deliveries rules calls s'))
 
   -- a beat on a leg stood there before the calls, or one of them put it there
-  pub puts : (calls : List Call) (s : Play) (i leg : ℕ) (b : Beat) → Now s → 1 ≤ i → i ≤ plan.n → on_leg leg (the i (played m plan room calls s).table) ≡ Some b →
-      (on_leg leg (the i s.table) ≡ Some b) ⊎ PutBy m plan room s calls i leg b
+  pub puts : (calls : List Call) (s : Play) (i leg : ℕ) (b : Beat) → Now s → 1 ≤ i → i ≤ rules.plan.n → on_leg leg (the i (played rules calls s).table) ≡ Some b →
+      (on_leg leg (the i s.table) ≡ Some b) ⊎ PutBy rules s calls i leg b
   puts [] s i leg b t lo hi e = inl e
   puts (call ∷ calls) s i leg b t lo hi e =
       elim (puts calls s' i leg b t' lo hi e) [
@@ -533,15 +539,15 @@ module _ (m : Meaning) (plan : Plan) (room : ℕ) where
       ]
     where
       s' : Play
-      s' = perform m plan room call s
+      s' = perform rules call s
 
-      made : Next (at s) plan.n s s' (delivery call (number plan room call s) s)
-      made = performs (at s) call s (number plan room call s) refl t
+      made : Next (at s) rules s s' (delivery call (number rules call s) s)
+      made = performs (at s) call s (number rules call s) refl t
 
       t' : Now s'
       t' = holds_now (at s) s' made.0
 
-      first : on_leg leg (the i s'.table) ≡ Some b → (on_leg leg (the i s.table) ≡ Some b) ⊎ PutBy m plan room s (call ∷ calls) i leg b
+      first : on_leg leg (the i s'.table) ≡ Some b → (on_leg leg (the i s.table) ≡ Some b) ⊎ PutBy rules s (call ∷ calls) i leg b
       first now = elim (made.0.older (i - 1) leg b (omega arith) now) [
         | inl old ↦ inl old
         | inr fresh ↦ inr (record {
@@ -550,7 +556,7 @@ module _ (m : Meaning) (plan : Plan) (room : ℕ) where
           after = calls;
           among = refl;
           not_yet = fresh;
-          written = held_at (at s') plan.n s' i leg b lo hi t' now;
+          written = held_at (at s') rules s' i leg b lo hi t' now;
           put = now;
         })
       ]
@@ -560,12 +566,12 @@ module _ (m : Meaning) (plan : Plan) (room : ℕ) where
   bare : (kind : GroupKind) (x y z : Bool) (b : Beat) → cond x (fresh kind).legs.out (cond y (fresh kind).legs.reply (cond z (fresh kind).legs.entry None)) ≡ Some b → ⊥
   bare kind x y z b e = grind arith
 
-  empty : (k leg : ℕ) (b : Beat) → k < plan.n → on_leg leg (get_or (opened m plan).table.parties k nobody) ≡ Some b → ⊥
+  empty : (k leg : ℕ) (b : Beat) → k < rules.plan.n → on_leg leg (get_or (opened rules).table.parties k nobody) ≡ Some b → ⊥
   empty k leg b h e =
-      bare plan.kind (eqb leg 1) (eqb leg 2) (eqb leg 3) b
-      (subst (λ p. on_leg leg p ≡ Some b) (get_or-replicate 32 k (fresh plan.kind) nobody (omega (arith, plan.few))) e)
+      bare rules.plan.kind (eqb leg 1) (eqb leg 2) (eqb leg 3) b
+      (subst (λ p. on_leg leg p ≡ Some b) (get_or-replicate 32 k (fresh rules.plan.kind) nobody (omega (arith, rules.plan.few))) e)
 
-  opens : Now (opened m plan)
+  opens : Now (opened rules)
   opens = record {
     since = omega arith;
     older = λ k leg b h e. inl e;
@@ -576,20 +582,20 @@ module _ (m : Meaning) (plan : Plan) (room : ℕ) where
     carried = λ k leg b h e. absurd (empty k leg b h e);
     under_way = λ k leg b h e. absurd (empty k leg b h e);
     apart = λ k leg b k' leg' b' h h' e e' same. absurd (empty k leg b h e);
-    long = omega (arith, plan.few);
+    long = omega (arith, rules.plan.few);
   }
 
   -- what holds after every run, and the edges of its log
-  pub after : (calls : List Call) → let s = played m plan room calls (opened m plan) in Now s × (edges 0 s.log ≡ deliveries m plan room calls (opened m plan))
-  after calls = plays calls (opened m plan) opens
+  pub after : (calls : List Call) → let s = played rules calls (opened rules) in Now s × (edges 0 s.log ≡ deliveries rules calls (opened rules))
+  after calls = plays calls (opened rules) opens
 
   -- a beat on a leg of a new group's run was put there by one of its calls
-  pub put_by : (calls : List Call) (i leg : ℕ) (b : Beat) → 1 ≤ i → i ≤ plan.n → on_leg leg (the i (played m plan room calls (opened m plan)).table) ≡ Some b →
-      PutBy m plan room (opened m plan) calls i leg b
+  pub put_by : (calls : List Call) (i leg : ℕ) (b : Beat) → 1 ≤ i → i ≤ rules.plan.n → on_leg leg (the i (played rules calls (opened rules)).table) ≡ Some b →
+      PutBy rules (opened rules) calls i leg b
   put_by calls i leg b lo hi e =
-      elim (puts calls (opened m plan) i leg b opens lo hi e) [ inl old ↦ absurd (empty (i - 1) leg b (omega arith) old) | inr put ↦ put ]
+      elim (puts calls (opened rules) i leg b opens lo hi e) [ inl old ↦ absurd (empty (i - 1) leg b (omega arith) old) | inr put ↦ put ]
 
   -- and the log holds its sending
-  pub held : (calls : List Call) (i leg : ℕ) (b : Beat) → 1 ≤ i → i ≤ plan.n → let s = played m plan room calls (opened m plan) in
+  pub held : (calls : List Call) (i leg : ℕ) (b : Beat) → 1 ≤ i → i ≤ rules.plan.n → let s = played rules calls (opened rules) in
       on_leg leg (the i s.table) ≡ Some b → SentBy s.log (sender leg i) b.place
-  held calls i leg b lo hi e = let s = played m plan room calls (opened m plan) in held_at (at s) plan.n s i leg b lo hi (after calls).0 e
+  held calls i leg b lo hi e = let s = played rules calls (opened rules) in held_at (at s) rules s i leg b lo hi (after calls).0 e

@@ -4,9 +4,9 @@ use Rattle.std.proofs.lemmas.List.{get_or-map}
 use Rattle.std.proofs.lemmas.Bool.Decides.{nat_tests}
 use Rattle.slots.specs.Slots.{last_time}
 use Rattle.protocol.specs.declared.happening.Happening.{Happening}
-use Rattle.protocol.specs.declared.plan.Plan.{Plan}
 use Rattle.std.specs.List.Sorted.{IsNonDecreasingBy}
 use Rattle.protocol.specs.Beats.{nothing, happening_at}
+use Rattle.protocol.specs.Rules.{Rules}
 use Rattle.protocol.specs.Group.{Play}
 use Rattle.protocol.specs.Order.{InOrder, LogInOrder, TellsOwnLog}
 use Rattle.protocol.specs.Runs.{tick_of, is_own_log}
@@ -23,8 +23,8 @@ both a b x y e le = grind (arith, nat_tests)
 pub owns : (s : Play) → InOrder s.table.clock s.log → s.table.logged ≡ length s.log → is_own_log s ≡ true
 owns s o e = both (length s.log) s.table.logged (last_time tick_of s.log) s.table.clock (sym e) (last_not_later s.table.clock s.log o)
 
-pub own_log : (plan : Plan) (s : Play) → LogInOrder plan s → is_own_log s ≡ true
-own_log plan s h = owns s h.in_order h.counted
+pub own_log : (rules : Rules) (s : Play) → LogInOrder rules s → is_own_log s ≡ true
+own_log rules s h = owns s h.in_order h.counted
 
 latest : (log : List Happening) (k : ℕ) → k < length log → IsNonDecreasingBy tick_of log → (happening_at log k).tick ≤ last_time tick_of log
 latest log k h rises =

@@ -15,13 +15,13 @@ use Rattle.protocol.specs.declared.table.Root.{Root}
 use Rattle.protocol.specs.declared.happening.HappeningKind.{HappeningKind}
 use Rattle.protocol.specs.declared.happening.HappeningKind.TheVariants.{Sent, Arrived, Lost}
 use Rattle.protocol.specs.declared.happening.Happening.{Happening}
-use Rattle.protocol.specs.declared.plan.Plan.{Plan}
 use Rattle.protocol.specs.declared.call.Call.{Call}
 use Rattle.protocol.specs.declared.call.Call.TheVariants.{Tick, Deliver, Lose, Crash, Join, Leave}
 use Rattle.pace.specs.Meaning.{Meaning}
 use Rattle.protocol.specs.Patience.{trip, patience}
 use Rattle.protocol.specs.Walk.{folds}
 use Rattle.protocol.specs.Party.{on_leg, on_roll, missed_all, live, calls_in}
+use Rattle.protocol.specs.Rules.{Rules}
 use Rattle.protocol.specs.Group.{Play, the, happens, tells_of, links, sender, answer_log, arrival_log, runs, delivered_as, lost_as, crashed, any, shortest, counted, send_log, sent, live_word, started, settled_as, rounded_as, rounded, round_ends, tells_if, timer_log, timed, opened}
 use Rattle.protocol.specs.Runs.{number, done, unless, perform, played}
 use Rattle.protocol.specs.Beats.{settles, nothing, happening_at, SentBy}
@@ -113,7 +113,13 @@ module _ (Q : Happening → Type 0) where
 weaken : (Q R : Happening → Type 0) (log log' : List Happening) → ((h : Happening) → Q h → R h) → Grown Q log log' → Grown R log log'
 weaken Q R log log' f g = record { longer = g.longer; kept = g.kept; fresh = λ k lo hi. f _ (g.fresh k lo hi) }
 
-module _ (n : ℕ) (S : ℕ → Type 0) where
+module _ (rules : Rules) (S : ℕ → Type 0) where
+  abbrev n : ℕ
+  n = rules.plan.n
+
+  abbrev m : Meaning
+  m = rules.meaning
+
   -- a record of an owner up to n that settles nothing
   writes : (c : ℕ) (log : List Happening) (i : ℕ) (w : HappeningKind) (l : ℕ) → i ≤ n → settles w ≡ false → Grown (Wrote n c S) log (log ++ happens c i w l ∷ [])
   writes c log i w l h none = pushes (Wrote n c S) log (happens c i w l) (h, refl, λ is. absurd (clash _ is none))
@@ -188,13 +194,13 @@ module _ (n : ℕ) (S : ℕ → Type 0) where
       (λ j log p h. conds _ (on_roll p.note.roll) _ _ _ (writes c log 0 _ _ (omega arith) refl) (stays _ log))
       1 n s.log s.table.parties (omega arith)
 
-  settles_round : (b : Bool) (m : Meaning) (s : Play) → Grown (Wrote n s.table.clock S) s.log (settled_as b m n s).log
-  settles_round true m s = writes s.table.clock s.log 0 _ _ (omega arith) refl
-  settles_round false m s = starts (s.table.clock + trip m) (started (shortest m.waits m.tmax n s.table.parties) s)
+  settles_round : (b : Bool) (s : Play) → Grown (Wrote n s.table.clock S) s.log (settled_as b rules s).log
+  settles_round true s = writes s.table.clock s.log 0 _ _ (omega arith) refl
+  settles_round false s = starts (s.table.clock + trip m) (started (shortest m.waits m.tmax n s.table.parties) s)
 
-  rounds : (b : Bool) (m : Meaning) (s : Play) → Grown (Wrote n s.table.clock S) s.log (rounded_as b m n s).log
-  rounds true m s = settles_round (any (missed_all (length m.waits)) n (counted n s).table.parties) m (counted n s)
-  rounds false m s = stays _ s.log
+  rounds : (b : Bool) (s : Play) → Grown (Wrote n s.table.clock S) s.log (rounded_as b rules s).log
+  rounds true s = settles_round (any (missed_all (length m.waits)) n (counted n s).table.parties) (counted n s)
+  rounds false s = stays _ s.log
 
   timers : (d l x : ℕ) (s : Play) → Grown (Wrote n s.table.clock S) s.log (timed d l x n s).log
   timers d l x s =
@@ -203,39 +209,39 @@ module _ (n : ℕ) (S : ℕ → Type 0) where
       (λ j log p h. timer_grows p.own.standing c d l p.own.since j log h)
       1 n s.log s.table.parties (omega arith)
 
-module _ (m : Meaning) (plan : Plan) (room : ℕ) where
+module _ (rules : Rules) where
   -- what a granted call writes
-  pub does : (call : Call) (s : Play) → number plan room call s ≡ 0 → Grown (Wrote plan.n s.table.clock (UnderWay plan.n s.table)) s.log (done m plan call s).log
+  pub does : (call : Call) (s : Play) → number rules call s ≡ 0 → Grown (Wrote rules.plan.n s.table.clock (UnderWay rules.plan.n s.table)) s.log (done rules call s).log
   does Tick s e =
-      let S = UnderWay plan.n s.table in
-      let r = rounded m plan.n s in
-      further _ _ _ _ (rounds plan.n S (round_ends s.table) m s)
-      (subst (λ c. Grown (Wrote plan.n c S) r.log (timed (patience m plan.kind) m.tmin (trip m) plan.n r).log) (rounded_clock m plan.n (round_ends s.table) s)
-      (timers plan.n S (patience m plan.kind) m.tmin (trip m) r))
+      let S = UnderWay rules.plan.n s.table in
+      let r = rounded rules s in
+      further _ _ _ _ (rounds rules S (round_ends s.table) s)
+      (subst (λ c. Grown (Wrote rules.plan.n c S) r.log (timed (patience rules.meaning rules.plan.kind) rules.meaning.tmin (trip rules.meaning) rules.plan.n r).log) (rounded_clock rules (round_ends s.table) s)
+      (timers rules S (patience rules.meaning rules.plan.kind) rules.meaning.tmin (trip rules.meaning) r))
   does (Deliver i leg) s e =
-      let a = asked_party plan.n i _ e in
-      delivers plan.n _ (on_leg leg (the i s.table)) i leg s a.1 (λ b on. record { party = i; leg = leg; beat = b; of_a_party = a; stands = on; sent_there = refl })
+      let a = asked_party rules.plan.n i _ e in
+      delivers rules _ (on_leg leg (the i s.table)) i leg s a.1 (λ b on. record { party = i; leg = leg; beat = b; of_a_party = a; stands = on; sent_there = refl })
   does (Lose i leg) s e =
-      let a = asked_party plan.n i _ e in
-      loses_one plan.n _ (on_leg leg (the i s.table)) i leg s a.1 (λ b on. record { party = i; leg = leg; beat = b; of_a_party = a; stands = on; sent_there = refl })
-  does (Crash i) s e = crashes plan.n _ i s (asked_low plan.n i _ e)
+      let a = asked_party rules.plan.n i _ e in
+      loses_one rules _ (on_leg leg (the i s.table)) i leg s a.1 (λ b on. record { party = i; leg = leg; beat = b; of_a_party = a; stands = on; sent_there = refl })
+  does (Crash i) s e = crashes rules _ i s (asked_low rules.plan.n i _ e)
   does (Join i) s e =
-      let a = asked_party plan.n i _ e in
+      let a = asked_party rules.plan.n i _ e in
       let c = s.table.clock in
-      further _ _ _ _ (writes plan.n _ c s.log i _ _ a.1 refl) (writes plan.n _ c _ i _ _ a.1 refl)
-  does (Leave i) s e = writes plan.n _ s.table.clock s.log i _ _ (asked_party plan.n i _ e).1 refl
+      further _ _ _ _ (writes rules _ c s.log i _ _ a.1 refl) (writes rules _ c _ i _ _ a.1 refl)
+  does (Leave i) s e = writes rules _ s.table.clock s.log i _ _ (asked_party rules.plan.n i _ e).1 refl
 
-  performs_as : (call : Call) (s : Play) (k : ℕ) → number plan room call s ≡ k → Grown (OwnedBy plan.n) s.log (unless k s (done m plan call s)).log
+  performs_as : (call : Call) (s : Play) (k : ℕ) → number rules call s ≡ k → Grown (OwnedBy rules.plan.n) s.log (unless k s (done rules call s)).log
   performs_as call s zero e =
-      weaken (Wrote plan.n s.table.clock (UnderWay plan.n s.table)) (OwnedBy plan.n) s.log (done m plan call s).log (λ h w. w.0) (does call s e)
+      weaken (Wrote rules.plan.n s.table.clock (UnderWay rules.plan.n s.table)) (OwnedBy rules.plan.n) s.log (done rules call s).log (λ h w. w.0) (does call s e)
   performs_as call s (suc k) e = stays _ s.log
 
-  pub performs : (call : Call) (s : Play) → Grown (OwnedBy plan.n) s.log (perform m plan room call s).log
-  performs call s = performs_as call s (number plan room call s) refl
+  pub performs : (call : Call) (s : Play) → Grown (OwnedBy rules.plan.n) s.log (perform rules call s).log
+  performs call s = performs_as call s (number rules call s) refl
 
-  pub plays : (calls : List Call) (s : Play) → Grown (OwnedBy plan.n) s.log (played m plan room calls s).log
+  pub plays : (calls : List Call) (s : Play) → Grown (OwnedBy rules.plan.n) s.log (played rules calls s).log
   plays [] s = stays _ s.log
-  plays (call ∷ calls) s = further _ _ _ _ (performs call s) (plays calls (perform m plan room call s))
+  plays (call ∷ calls) s = further _ _ _ _ (performs call s) (plays calls (perform rules call s))
 
-  pub owned : (calls : List Call) → OwnedUpTo plan.n (played m plan room calls (opened m plan)).log
-  owned calls k h = (plays calls (opened m plan)).fresh k (omega arith) h
+  pub owned : (calls : List Call) → OwnedUpTo rules.plan.n (played rules calls (opened rules)).log
+  owned calls k h = (plays calls (opened rules)).fresh k (omega arith) h

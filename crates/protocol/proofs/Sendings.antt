@@ -14,13 +14,13 @@ use Rattle.protocol.specs.declared.table.Root.{Root}
 use Rattle.protocol.specs.declared.table.Root.TheVariants.{Running, Down}
 use Rattle.protocol.specs.declared.happening.HappeningKind.TheVariants.{Sent, Arrived, Lost, Struck as WasStruck, Enrolled, Crashed, Stopped, Left, Joining, Leaving}
 use Rattle.protocol.specs.declared.happening.Happening.{Happening}
-use Rattle.protocol.specs.declared.plan.Plan.{Plan}
 use Rattle.protocol.specs.declared.call.Call.{Call}
 use Rattle.protocol.specs.declared.call.Call.TheVariants.{Tick, Deliver, Lose, Crash, Join, Leave}
 use Rattle.pace.specs.Meaning.{Meaning, Lawful}
 use Rattle.protocol.specs.Patience.{trip, patience}
 use Rattle.protocol.specs.Walk.{folds, walks}
 use Rattle.protocol.specs.Party.{beat, party, legs_of, nobody, on_leg, off_leg, off_out, off_reply, off_entry, arrives, hears_as, heeds, joined, now_leaving, crashes, missed, sends, sends_as, on_roll, missed_all, times, times_as, times_live, calls_in, live}
+use Rattle.protocol.specs.Rules.{Rules}
 use Rattle.protocol.specs.Group.{Play, the, happens, tells_of, links, sender, answer_log, arrival_log, runs, delivered_as, lost_as, crashed, joins, leaves, any, shortest, counted, send_log, sent, started, settled_as, rounded_as, rounded, round_ends, live_word, tells_if, timer_log, timed, opened}
 use Rattle.protocol.specs.Runs.{number, done, unless, reached}
 use Rattle.protocol.specs.Beats.{settles, nothing, happening_at, FreeFor}
@@ -353,7 +353,13 @@ calls_free Joins c tmin p f is calls = f is (grind (arith, nat_tests)) (grind (a
 calls_free In c tmin p f is calls = absurd (grind arith)
 calls_free Leaves c tmin p f is calls = absurd (grind arith)
 
-module _ (n : ℕ) where
+module _ (rules : Rules) where
+  abbrev n : ℕ
+  n = rules.plan.n
+
+  abbrev m : Meaning
+  m = rules.meaning
+
   abbrev All : Play → Type 0
   All s = Accounted s.log (HasOne n s.table.parties)
 
@@ -395,8 +401,8 @@ module _ (n : ℕ) where
   leaves_one j s lo hi long a =
       tells_one j (now_leaving (the j s.table)) s (happens s.table.clock j Leaving (length s.log)) lo hi (λ is. absurd (grind arith)) (λ leg b e. e) long a
 
-  joins_one : (m : Meaning) (j : ℕ) (s : Play) → 1 ≤ j → j ≤ n → (the j s.table).legs.entry ≡ None → Long s → All s → All (joins m j s)
-  joins_one m j s lo hi free long a =
+  joins_one : (j : ℕ) (s : Play) → 1 ≤ j → j ≤ n → (the j s.table).legs.entry ≡ None → Long s → All s → All (joins rules j s)
+  joins_one j s lo hi free long a =
       let c = s.table.clock in
       let p = the j s.table in
       let h = happens c j Joining (length s.log) in
@@ -424,33 +430,33 @@ module _ (n : ℕ) where
       passes FreeOut (λ _ log p. sends last (length log) p) (λ _ log p. send_log s.table.clock log p)
       (λ G j log p f b. send G p.note.roll s.table.clock last log p f b) n s.log s.table.parties free a
 
-  settles_round : (b : Bool) (m : Meaning) (s : Play) → ((k : ℕ) → k < n → FreeOut (get_or s.table.parties k nobody)) → All s → All (settled_as b m n s)
-  settles_round true m s free a = tells_root s (happens s.table.clock 0 Stopped (length s.log)) (λ is. absurd (grind arith)) a
-  settles_round false m s free a = starts (s.table.clock + trip m) (started (shortest m.waits m.tmax n s.table.parties) s) free a
+  settles_round : (b : Bool) (s : Play) → ((k : ℕ) → k < n → FreeOut (get_or s.table.parties k nobody)) → All s → All (settled_as b rules s)
+  settles_round true s free a = tells_root s (happens s.table.clock 0 Stopped (length s.log)) (λ is. absurd (grind arith)) a
+  settles_round false s free a = starts (s.table.clock + trip m) (started (shortest m.waits m.tmax n s.table.parties) s) free a
 
-  rounds : (b : Bool) (m : Meaning) (s : Play) → Long s → (b ≡ true → (k : ℕ) → k < n → FreeOut (get_or s.table.parties k nobody)) → All s → All (rounded_as b m n s)
-  rounds true m s long free a =
-      settles_round (any (missed_all (length m.waits)) n (counted n s).table.parties) m (counted n s)
+  rounds : (b : Bool) (s : Play) → Long s → (b ≡ true → (k : ℕ) → k < n → FreeOut (get_or s.table.parties k nobody)) → All s → All (rounded_as b rules s)
+  rounds true s long free a =
+      settles_round (any (missed_all (length m.waits)) n (counted n s).table.parties) (counted n s)
       (λ k h. walks_each _ _ FreeOut FreeOut (λ _ (u : ℕ) p f. missed_out p f) 1 n 0 s.table.parties nobody k h long (free refl k h))
       (counts s long a)
-  rounds false m s long free a = a
+  rounds false s long free a = a
 
   -- what a round leaves as it was
-  settles_entry : (b : Bool) (m : Meaning) (c : ℕ) (s : Play) → Long s → ((k : ℕ) → k < n → FreeEntry c m.tmin (get_or s.table.parties k nobody)) →
-      (k : ℕ) → k < n → FreeEntry c m.tmin (get_or (settled_as b m n s).table.parties k nobody)
-  settles_entry true m c s long free k h = free k h
-  settles_entry false m c s long free k h =
+  settles_entry : (b : Bool) (c : ℕ) (s : Play) → Long s → ((k : ℕ) → k < n → FreeEntry c m.tmin (get_or s.table.parties k nobody)) →
+      (k : ℕ) → k < n → FreeEntry c m.tmin (get_or (settled_as b rules s).table.parties k nobody)
+  settles_entry true c s long free k h = free k h
+  settles_entry false c s long free k h =
       walks_each _ _ (FreeEntry c m.tmin) (FreeEntry c m.tmin) (λ _ log p f. sends_entry p.note.roll c m.tmin _ (length log) p f)
       1 n s.log s.table.parties nobody k h long (free k h)
 
-  rounds_entry : (b : Bool) (m : Meaning) (c : ℕ) (s : Play) → Long s → ((k : ℕ) → k < n → FreeEntry c m.tmin (get_or s.table.parties k nobody)) →
-      (k : ℕ) → k < n → FreeEntry c m.tmin (get_or (rounded_as b m n s).table.parties k nobody)
-  rounds_entry true m c s long free k h =
-      settles_entry (any (missed_all (length m.waits)) n (counted n s).table.parties) m c (counted n s)
+  rounds_entry : (b : Bool) (c : ℕ) (s : Play) → Long s → ((k : ℕ) → k < n → FreeEntry c m.tmin (get_or s.table.parties k nobody)) →
+      (k : ℕ) → k < n → FreeEntry c m.tmin (get_or (rounded_as b rules s).table.parties k nobody)
+  rounds_entry true c s long free k h =
+      settles_entry (any (missed_all (length m.waits)) n (counted n s).table.parties) c (counted n s)
       (walks_long (λ _ (u : ℕ) p. missed p) (λ _ (u : ℕ) _. u) 1 n 0 s.table.parties n long)
       (λ k h. walks_each _ _ (FreeEntry c m.tmin) (FreeEntry c m.tmin) (λ _ (u : ℕ) p f. f) 1 n 0 s.table.parties nobody k h long (free k h))
       k h
-  rounds_entry false m c s long free k h = free k h
+  rounds_entry false c s long free k h = free k h
 
   timers : (d l x : ℕ) (s : Play) → ((k : ℕ) → k < n → FreeEntry s.table.clock l (get_or s.table.parties k nobody)) → All s → All (timed d l x n s)
   timers d l x s free a =
@@ -458,34 +464,34 @@ module _ (n : ℕ) where
       passes (FreeEntry c l) (λ _ log p. times c d l (c + x) (length log) p) (λ j log p. timer_log p.own.standing c d l p.own.since j log)
       (λ G j log p f b. time G p.own.standing c d l (c + x) j log p (λ g is calls. calls_free g c l p f is calls) b) n s.log s.table.parties free a
 
-module _ (m : Meaning) (plan : Plan) (room : ℕ) where
-  does : (call : Call) (s : Play) → number plan room call s ≡ 0 → FreeFor m plan call s → Long plan.n s → All plan.n s → All plan.n (done m plan call s)
+module _ (rules : Rules) where
+  does : (call : Call) (s : Play) → number rules call s ≡ 0 → FreeFor rules call s → Long rules s → All rules s → All rules (done rules call s)
   does Tick s z free long a =
       let ends = round_ends s.table in
-      let f = λ (k : ℕ) (h : k < plan.n). free (k + 1) (omega arith) (omega arith) in
-      timers plan.n (patience m plan.kind) m.tmin (trip m) (rounded m plan.n s)
-      (λ k h. subst (λ c. FreeEntry c m.tmin (get_or (rounded m plan.n s).table.parties k nobody)) (sym (rounded_clock m plan.n ends s))
-      (rounds_entry plan.n ends m s.table.clock s long (λ k h. subst (λ j. FreeEntry s.table.clock m.tmin (get_or s.table.parties j nobody)) (omega arith) (f k h).1) k h))
-      (rounds plan.n ends m s long (λ is k h. subst (λ j. FreeOut (get_or s.table.parties j nobody)) (omega arith) ((f k h).0 is)) a)
-  does (Deliver i leg) s z free long a = let p = asked_party plan.n i _ z in delivers plan.n (on_leg leg (the i s.table)) i leg s refl p.0 p.1 free long a
-  does (Lose i leg) s z free long a = let p = asked_party plan.n i _ z in loses_one plan.n (on_leg leg (the i s.table)) i leg s refl p.0 p.1 long a
-  does (Crash i) s z free long a = crashes_one plan.n i s (asked_low plan.n i _ z) long a
-  does (Join i) s z free long a = let p = asked_party plan.n i _ z in joins_one plan.n m i s p.0 p.1 free long a
-  does (Leave i) s z free long a = let p = asked_party plan.n i _ z in leaves_one plan.n i s p.0 p.1 long a
+      let f = λ (k : ℕ) (h : k < rules.plan.n). free (k + 1) (omega arith) (omega arith) in
+      timers rules (patience rules.meaning rules.plan.kind) rules.meaning.tmin (trip rules.meaning) (rounded rules s)
+      (λ k h. subst (λ c. FreeEntry c rules.meaning.tmin (get_or (rounded rules s).table.parties k nobody)) (sym (rounded_clock rules ends s))
+      (rounds_entry rules ends s.table.clock s long (λ k h. subst (λ j. FreeEntry s.table.clock rules.meaning.tmin (get_or s.table.parties j nobody)) (omega arith) (f k h).1) k h))
+      (rounds rules ends s long (λ is k h. subst (λ j. FreeOut (get_or s.table.parties j nobody)) (omega arith) ((f k h).0 is)) a)
+  does (Deliver i leg) s z free long a = let p = asked_party rules.plan.n i _ z in delivers rules (on_leg leg (the i s.table)) i leg s refl p.0 p.1 free long a
+  does (Lose i leg) s z free long a = let p = asked_party rules.plan.n i _ z in loses_one rules (on_leg leg (the i s.table)) i leg s refl p.0 p.1 long a
+  does (Crash i) s z free long a = crashes_one rules i s (asked_low rules.plan.n i _ z) long a
+  does (Join i) s z free long a = let p = asked_party rules.plan.n i _ z in joins_one rules i s p.0 p.1 free long a
+  does (Leave i) s z free long a = let p = asked_party rules.plan.n i _ z in leaves_one rules i s p.0 p.1 long a
 
-  performs : (call : Call) (s : Play) (k : ℕ) → number plan room call s ≡ k → (k ≡ 0 → FreeFor m plan call s) → Long plan.n s → All plan.n s →
-      All plan.n (unless k s (done m plan call s))
+  performs : (call : Call) (s : Play) (k : ℕ) → number rules call s ≡ k → (k ≡ 0 → FreeFor rules call s) → Long rules s → All rules s →
+      All rules (unless k s (done rules call s))
   performs call s zero z free long a = does call s z (free refl) long a
   performs call s (suc k) z free long a = a
 
-  module _ (sound : Lawful m) where
-    plays : (before later : List Call) → All plan.n (reached m plan room before) → All plan.n (reached m plan room (before ++ later))
-    plays before [] a = subst (λ calls. All plan.n (reached m plan room calls)) (sym (append-nil before)) a
+  module _ (sound : Lawful rules.meaning) where
+    plays : (before later : List Call) → All rules (reached rules before) → All rules (reached rules (before ++ later))
+    plays before [] a = subst (λ calls. All rules (reached rules calls)) (sym (append-nil before)) a
     plays before (call ∷ later) a =
-        let s = reached m plan room before in
-        let next = performs call s (number plan room call s) refl (free_legs m sound plan room before call) (logged_after m plan room before).0.long a in
-        subst (λ calls. All plan.n (reached m plan room calls)) (append_assoc before (call ∷ []) later)
-        (plays (before ++ call ∷ []) later (subst (All plan.n) (sym (played_snoc m plan room before call (opened m plan))) next))
+        let s = reached rules before in
+        let next = performs call s (number rules call s) refl (free_legs rules sound before call) (logged_after rules before).0.long a in
+        subst (λ calls. All rules (reached rules calls)) (append_assoc before (call ∷ []) later)
+        (plays (before ++ call ∷ []) later (subst (All rules) (sym (played_snoc rules before call (opened rules))) next))
 
 under_way : (n : ℕ) (s : Play) (k : ℕ) → HasOne n s.table.parties k → UnderWay n s.table k
 under_way n s k h = record {
@@ -498,7 +504,7 @@ under_way n s k h = record {
 }
 
 pub no_beat_vanishes : RunsLetNoBeatVanish
-no_beat_vanishes m sound plan room calls =
-    let s = reached m plan room calls in
-    weaken s.log (HasOne plan.n s.table.parties) (UnderWay plan.n s.table) (under_way plan.n s)
-    (plays m plan room sound [] calls (λ k below. absurd (omega arith)))
+no_beat_vanishes rules sound calls =
+    let s = reached rules calls in
+    weaken s.log (HasOne rules.plan.n s.table.parties) (UnderWay rules.plan.n s.table) (under_way rules.plan.n s)
+    (plays rules sound [] calls (λ k below. absurd (omega arith)))

@@ -4,14 +4,12 @@ use Rattle.protocol.specs.declared.party.Party.{Party}
 use Rattle.protocol.specs.declared.party.Beat.{Beat}
 use Rattle.protocol.specs.declared.party.Roll.TheVariants.{Struck}
 use Rattle.protocol.specs.declared.table.Root.{Root}
-use Rattle.protocol.specs.declared.plan.Plan.{Plan}
 use Rattle.protocol.specs.declared.call.Call.{Call}
 use Rattle.protocol.specs.declared.call.Call.TheVariants.{Tick, Deliver, Lose, Crash, Join, Leave}
-use Rattle.pace.specs.Meaning.{Meaning}
-use Rattle.protocol.specs.Patience.{trip, patience}
 use Rattle.protocol.specs.Walk.{walks}
-use Rattle.protocol.specs.Party.{nobody, on_leg, off_leg, arrives, missed, missed_all, sends, times}
-use Rattle.protocol.specs.Group.{Play, the, delivered_as, lost_as, crashed, any, shortest, counted, sent, started, settled_as, rounded_as, rounded, round_ends, timed, opened}
+use Rattle.protocol.specs.Party.{nobody, on_leg, off_leg, arrives, missed, sends, times}
+use Rattle.protocol.specs.Rules.{Rules}
+use Rattle.protocol.specs.Group.{Play, the, delivered_as, lost_as, crashed, counted, sent, shortest, started, settled_as, rounded_as, rounded, round_ends, timed, opened}
 use Rattle.protocol.specs.Runs.{number, done, unless, perform, played}
 use Rattle.protocol.specs.Strikes.{IsStruck, RunsStrikeForGood}
 use Rattle.protocol.proofs.Lifts.{set_each}
@@ -71,39 +69,40 @@ module _ (i : ℕ) where
   starts : (last n : ℕ) (s : Play) → IsStruck i s → IsStruck i (sent last n s)
   starts last n s e = walks_keep _ _ Is (λ _ log p. sends_struck last (length log) p) 1 n s.log s.table.parties nobody (i - 1) e
 
-  settles : (b : Bool) (m : Meaning) (n : ℕ) (s : Play) → IsStruck i s → IsStruck i (settled_as b m n s)
-  settles true m n s e = e
-  settles false m n s e = starts (s.table.clock + trip m) n (started (shortest m.waits m.tmax n s.table.parties) s) e
+  settles : (b : Bool) (rules : Rules) (s : Play) → IsStruck i s → IsStruck i (settled_as b rules s)
+  settles true rules s e = e
+  settles false rules s e = starts _ rules.plan.n
+      (started (shortest rules.meaning.waits rules.meaning.tmax rules.plan.n s.table.parties) s) e
 
-  rounds : (b : Bool) (m : Meaning) (n : ℕ) (s : Play) → IsStruck i s → IsStruck i (rounded_as b m n s)
-  rounds true m n s e = settles (any (missed_all (length m.waits)) n (counted n s).table.parties) m n (counted n s) (counts n s e)
-  rounds false m n s e = e
+  rounds : (b : Bool) (rules : Rules) (s : Play) → IsStruck i s → IsStruck i (rounded_as b rules s)
+  rounds true rules s e = settles _ rules (counted rules.plan.n s) (counts rules.plan.n s e)
+  rounds false rules s e = e
 
   timers : (d l x n : ℕ) (s : Play) → IsStruck i s → IsStruck i (timed d l x n s)
   timers d l x n s e =
       walks_keep _ _ Is (λ _ log p. times_struck s.table.clock d l (s.table.clock + x) (length log) p) 1 n s.log s.table.parties nobody (i - 1) e
 
-  module _ (m : Meaning) (plan : Plan) (room : ℕ) where
-    does : (call : Call) (s : Play) → IsStruck i s → IsStruck i (done m plan call s)
-    does Tick s e = timers (patience m plan.kind) m.tmin (trip m) plan.n (rounded m plan.n s) (rounds (round_ends s.table) m plan.n s e)
+  module _ (rules : Rules) where
+    does : (call : Call) (s : Play) → IsStruck i s → IsStruck i (done rules call s)
+    does Tick s e = timers _ _ _ rules.plan.n (rounded rules s) (rounds (round_ends s.table) rules s e)
     does (Deliver j leg) s e = delivers (on_leg leg (the j s.table)) j leg s e
     does (Lose j leg) s e = loses_one (on_leg leg (the j s.table)) j leg s e
     does (Crash j) s e = crashes_one j s e
     does (Join j) s e = changed j _ s.table.parties (λ f. f) e
     does (Leave j) s e = changed j _ s.table.parties (λ f. f) e
 
-    performs : (call : Call) (s : Play) (k : ℕ) → IsStruck i s → IsStruck i (unless k s (done m plan call s))
+    performs : (call : Call) (s : Play) (k : ℕ) → IsStruck i s → IsStruck i (unless k s (done rules call s))
     performs call s zero e = does call s e
     performs call s (suc k) e = e
 
     -- after some calls, and then others
-    plays_on : (before later : List Call) (s : Play) → IsStruck i (played m plan room before s) → IsStruck i (played m plan room (before ++ later) s)
+    plays_on : (before later : List Call) (s : Play) → IsStruck i (played rules before s) → IsStruck i (played rules (before ++ later) s)
     plays_on [] [] s e = e
-    plays_on [] (call ∷ later) s e = plays_on [] later (perform m plan room call s) (performs call s (number plan room call s) e)
-    plays_on (call ∷ before) later s e = plays_on before later (perform m plan room call s) e
+    plays_on [] (call ∷ later) s e = plays_on [] later (perform rules call s) (performs call s (number rules call s) e)
+    plays_on (call ∷ before) later s e = plays_on before later (perform rules call s) e
 
 pub strikes_for_good : RunsStrikeForGood
-strikes_for_good m sound plan room calls = record {
-  stays_struck = λ before later after i among lo hi e. plays_on i m plan room before later (opened m plan) e;
-  gets_no_beat = λ before after i among lo hi e. no_beat_of_the_root m sound plan room before i lo hi e;
+strikes_for_good rules sound calls = record {
+  stays_struck = λ before later after i among lo hi e. plays_on i rules before later (opened rules) e;
+  gets_no_beat = λ before after i among lo hi e. no_beat_of_the_root rules sound before i lo hi e;
 }

@@ -17,12 +17,12 @@ use Rattle.protocol.specs.declared.kind.GroupKind.{GroupKind}
 use Rattle.protocol.specs.declared.happening.HappeningKind.{HappeningKind}
 use Rattle.protocol.specs.declared.happening.HappeningKind.TheVariants.{Sent, Arrived, Lost, Struck as WasStruck, Enrolled, Crashed as HasCrashed, Stopped, Left, Joining as IsJoining, Leaving as IsLeaving}
 use Rattle.protocol.specs.declared.happening.Happening.{Happening}
-use Rattle.protocol.specs.declared.plan.Plan.{Plan}
 use Rattle.protocol.specs.declared.call.Call.{Call}
 use Rattle.protocol.specs.declared.call.Call.TheVariants.{Tick, Deliver, Lose, Crash, Join, Leave}
 use Rattle.protocol.specs.Patience.{trip, patience}
 use Rattle.protocol.specs.Walk.{folds, walks}
 use Rattle.protocol.specs.Party.{nobody, fresh, on_leg, off_leg, off_out, off_reply, off_entry, arrives, hears_as, heeds, answers, joined, now_leaving, crashes, missed, sends, on_roll, missed_all, times, times_as, times_live, calls_in, live}
+use Rattle.protocol.specs.Rules.{Rules}
 use Rattle.protocol.specs.Group.{Play, the, happens, tells_of, links, sender, answer_log, arrival_log, runs, delivered_as, lost_as, crashed, root_crashed, joins, leaves, any, shortest, counted, send_log, sent, started, settled_as, rounded_as, rounded, round_ends, live_word, tells_if, timer_log, timed, opened}
 use Rattle.protocol.specs.Runs.{asks, can_crash, number, done, unless, perform, played}
 use Rattle.protocol.specs.Told.{read, Account, account_of, first_account, tells_as, told_of, root_as, root_told, TellsTheGroup, RunsTellTheirGroup}
@@ -92,7 +92,16 @@ off_told : (leg : ℕ) (p : Party) → account_of (off_leg leg p) ≡ account_of
 off_told leg p = grind arith
 
 -- of one party i
-module _ (kind : GroupKind) (n i : ℕ) (lo : 1 ≤ i) (hi : i ≤ n) where
+module _ (rules : Rules) (i : ℕ) (lo : 1 ≤ i) (hi : i ≤ rules.plan.n) where
+  abbrev kind : GroupKind
+  kind = rules.plan.kind
+
+  abbrev n : ℕ
+  n = rules.plan.n
+
+  abbrev m : Meaning
+  m = rules.meaning
+
   abbrev T : List Happening → Account
   T log = told_of kind i log
 
@@ -214,8 +223,8 @@ module _ (kind : GroupKind) (n i : ℕ) (lo : 1 ≤ i) (hi : i ≤ n) where
       (λ here f. mine s.log h here ∙ crashes_told p.own.standing c p (T s.log) refl f)
       (λ there. other s.log h there)
 
-  joins_one : (m : Meaning) (j : ℕ) (s : Play) → 1 ≤ j → Long s → Tells s → Tells (joins m j s)
-  joins_one m j s low long e =
+  joins_one : (j : ℕ) (s : Play) → 1 ≤ j → Long s → Tells s → Tells (joins rules j s)
+  joins_one j s low long e =
       let c = s.table.clock in
       let h = happens c j IsJoining (length s.log) in
       let k = happens c j Sent (length (s.log ++ h ∷ [])) in
@@ -268,15 +277,15 @@ module _ (kind : GroupKind) (n i : ℕ) (lo : 1 ≤ i) (hi : i ≤ n) where
       (λ j log p there. quiet log p) (λ j log p here f. quiet log p ∙ f ∙ sym (sends_told last (length log) p))
       1 n s.log s.table.parties (i - 1) (omega arith) (omega arith) (omega arith) e
 
-  settles : (b : Bool) (m : Meaning) (s : Play) → Long s → Tells s → Tells (settled_as b m n s)
-  settles true m s long e = other s.log (happens s.table.clock 0 Stopped (length s.log)) (λ z. absurd (omega arith)) ∙ e
-  settles false m s long e = starts (s.table.clock + trip m) (started (shortest m.waits m.tmax n s.table.parties) s) long e
+  settles : (b : Bool) (s : Play) → Long s → Tells s → Tells (settled_as b rules s)
+  settles true s long e = other s.log (happens s.table.clock 0 Stopped (length s.log)) (λ z. absurd (omega arith)) ∙ e
+  settles false s long e = starts (s.table.clock + trip m) (started (shortest m.waits m.tmax n s.table.parties) s) long e
 
-  rounds : (b : Bool) (m : Meaning) (s : Play) → Long s → Tells s → Tells (rounded_as b m n s)
-  rounds true m s long e =
-      settles (any (missed_all (length m.waits)) n (counted n s).table.parties) m (counted n s)
+  rounds : (b : Bool) (s : Play) → Long s → Tells s → Tells (rounded_as b rules s)
+  rounds true s long e =
+      settles (any (missed_all (length m.waits)) n (counted n s).table.parties) (counted n s)
       (walks_long (λ _ (u : ℕ) p. missed p) (λ _ (u : ℕ) _. u) 1 n 0 s.table.parties n long) (counts s long e)
-  rounds false m s long e = e
+  rounds false s long e = e
 
   timer_there : (w : Option HappeningKind) (c j : ℕ) (log : List Happening) → (j ≡ i → ⊥) → T (tells_if w c j log) ≡ T log
   timer_there None c j log h = refl
@@ -369,13 +378,14 @@ root_starts last n s e =
     passed_over (suc n) log [] g same j = refl
     passed_over (suc n) log (p ∷ ps) g same j = passed_over n (g j log p) ps g same (suc j) ∙ same j log p
 
-root_settles : (b : Bool) (m : Meaning) (n : ℕ) (s : Play) → TellsRoot s → TellsRoot (settled_as b m n s)
-root_settles true m n s e = read_mine root_step 0 Running s.log (happens s.table.clock 0 Stopped (length s.log)) refl
-root_settles false m n s e = root_starts (s.table.clock + trip m) n (started (shortest m.waits m.tmax n s.table.parties) s) e
+root_settles : (b : Bool) (rules : Rules) (s : Play) → TellsRoot s → TellsRoot (settled_as b rules s)
+root_settles true rules s e = read_mine root_step 0 Running s.log (happens s.table.clock 0 Stopped (length s.log)) refl
+root_settles false rules s e = root_starts (s.table.clock + trip rules.meaning) rules.plan.n
+    (started (shortest rules.meaning.waits rules.meaning.tmax rules.plan.n s.table.parties) s) e
 
-root_rounds : (b : Bool) (m : Meaning) (n : ℕ) (s : Play) → TellsRoot s → TellsRoot (rounded_as b m n s)
-root_rounds true m n s e = root_settles (any (missed_all (length m.waits)) n (counted n s).table.parties) m n (counted n s) e
-root_rounds false m n s e = e
+root_rounds : (b : Bool) (rules : Rules) (s : Play) → TellsRoot s → TellsRoot (rounded_as b rules s)
+root_rounds true rules s e = root_settles _ rules (counted rules.plan.n s) e
+root_rounds false rules s e = e
 
 root_word : (w : Option HappeningKind) (c j : ℕ) (log : List Happening) → 1 ≤ j → root_told (tells_if w c j log) ≡ root_told log
 root_word None c j log h = refl
@@ -388,49 +398,49 @@ root_timers d l x n s e =
     ∙ e
 
 -- a round leaves as many parties
-pub rounds_long : (b : Bool) (m : Meaning) (n : ℕ) (s : Play) → n ≤ length s.table.parties → n ≤ length (rounded_as b m n s).table.parties
-rounds_long true m n s h = go (any (missed_all (length m.waits)) n (counted n s).table.parties) (counted n s)
-    (walks_long (λ _ (u : ℕ) p. missed p) (λ _ (u : ℕ) _. u) 1 n 0 s.table.parties n h)
+pub rounds_long : (b : Bool) (rules : Rules) (s : Play) → rules.plan.n ≤ length s.table.parties → rules.plan.n ≤ length (rounded_as b rules s).table.parties
+rounds_long true rules s h = go _ (counted rules.plan.n s)
+    (walks_long (λ _ (u : ℕ) p. missed p) (λ _ (u : ℕ) _. u) 1 rules.plan.n 0 s.table.parties rules.plan.n h)
   where
-    go : (b : Bool) (s : Play) → n ≤ length s.table.parties → n ≤ length (settled_as b m n s).table.parties
+    go : (b : Bool) (s : Play) → rules.plan.n ≤ length s.table.parties → rules.plan.n ≤ length (settled_as b rules s).table.parties
     go true s h = h
-    go false s h = walks_long _ _ 1 n s.log s.table.parties n h
-rounds_long false m n s h = h
+    go false s h = walks_long _ _ 1 rules.plan.n s.log s.table.parties rules.plan.n h
+rounds_long false rules s h = h
 
 -- the whole group, over a run
 
-module _ (m : Meaning) (plan : Plan) (room : ℕ) where
+module _ (rules : Rules) where
   -- there are parties enough, and the log tells of each and of the root
   record AllTold (s : Play) : Type 0 where
-    pub long : plan.n ≤ length s.table.parties
-    pub tells : TellsTheGroup plan s
+    pub long : rules.plan.n ≤ length s.table.parties
+    pub tells : TellsTheGroup rules s
 
   asked_crash : (i : ℕ) (a b : Bool) (x : ℕ) → asks a 6 (asks b 8 x) ≡ 0 → b ≡ true
   asked_crash i a b x e = grind arith
 
-  does_root : (call : Call) (s : Play) → number plan room call s ≡ 0 → TellsRoot s → TellsRoot (done m plan call s)
-  does_root Tick s z e = root_timers (patience m plan.kind) m.tmin (trip m) plan.n (rounded m plan.n s) (root_rounds (round_ends s.table) m plan.n s e)
+  does_root : (call : Call) (s : Play) → number rules call s ≡ 0 → TellsRoot s → TellsRoot (done rules call s)
+  does_root Tick s z e = root_timers (patience rules.meaning rules.plan.kind) rules.meaning.tmin (trip rules.meaning) rules.plan.n (rounded rules s) (root_rounds (round_ends s.table) rules s e)
   does_root (Deliver i leg) s z e = root_delivers (on_leg leg (the i s.table)) i leg s e
   does_root (Lose i leg) s z e = root_loses (on_leg leg (the i s.table)) i leg s e
-  does_root (Crash i) s z e = root_crash i s (asked_crash i (leb i plan.n) (can_crash i s) _ z) e
+  does_root (Crash i) s z e = root_crash i s (asked_crash i (leb i rules.plan.n) (can_crash i s) _ z) e
   does_root (Join i) s z e =
       let h = happens s.table.clock i IsJoining (length s.log) in
       root_idle (s.log ++ h ∷ []) (happens s.table.clock i Sent (length (s.log ++ h ∷ []))) (λ r. refl) ∙ root_idle s.log h (λ r. refl) ∙ e
   does_root (Leave i) s z e = root_idle s.log (happens s.table.clock i IsLeaving (length s.log)) (λ r. refl) ∙ e
 
-  set_long : (ps : List Party) (i : ℕ) (p : Party) → plan.n ≤ length ps → plan.n ≤ length (set ps i p)
+  set_long : (ps : List Party) (i : ℕ) (p : Party) → rules.plan.n ≤ length ps → rules.plan.n ≤ length (set ps i p)
   set_long ps i p h = omega (arith, length-set ps i p)
 
-  delivers_long : (o : Option Beat) (i leg : ℕ) (s : Play) → plan.n ≤ length s.table.parties → plan.n ≤ length (delivered_as o i leg s).table.parties
+  delivers_long : (o : Option Beat) (i leg : ℕ) (s : Play) → rules.plan.n ≤ length s.table.parties → rules.plan.n ≤ length (delivered_as o i leg s).table.parties
   delivers_long None i leg s h = h
   delivers_long (Some b) i leg s h = set_long s.table.parties (i - 1) _ h
 
-  loses_long : (o : Option Beat) (i leg : ℕ) (s : Play) → plan.n ≤ length s.table.parties → plan.n ≤ length (lost_as o i leg s).table.parties
+  loses_long : (o : Option Beat) (i leg : ℕ) (s : Play) → rules.plan.n ≤ length s.table.parties → rules.plan.n ≤ length (lost_as o i leg s).table.parties
   loses_long None i leg s h = h
   loses_long (Some b) i leg s h = set_long s.table.parties (i - 1) _ h
 
-  does_long : (call : Call) (s : Play) → plan.n ≤ length s.table.parties → plan.n ≤ length (done m plan call s).table.parties
-  does_long Tick s h = walks_long _ _ 1 plan.n (rounded m plan.n s).log (rounded m plan.n s).table.parties plan.n (rounds_long (round_ends s.table) m plan.n s h)
+  does_long : (call : Call) (s : Play) → rules.plan.n ≤ length s.table.parties → rules.plan.n ≤ length (done rules call s).table.parties
+  does_long Tick s h = walks_long _ _ 1 rules.plan.n (rounded rules s).log (rounded rules s).table.parties rules.plan.n (rounds_long (round_ends s.table) rules s h)
   does_long (Deliver i leg) s h = delivers_long (on_leg leg (the i s.table)) i leg s h
   does_long (Lose i leg) s h = loses_long (on_leg leg (the i s.table)) i leg s h
   does_long (Crash zero) s h = h
@@ -438,19 +448,19 @@ module _ (m : Meaning) (plan : Plan) (room : ℕ) where
   does_long (Join i) s h = set_long s.table.parties (i - 1) _ h
   does_long (Leave i) s h = set_long s.table.parties (i - 1) _ h
 
-  module _ (i : ℕ) (lo : 1 ≤ i) (hi : i ≤ plan.n) where
-    does_party : (call : Call) (s : Play) → number plan room call s ≡ 0 → plan.n ≤ length s.table.parties →
-        told_of plan.kind i s.log ≡ account_of (the i s.table) → told_of plan.kind i (done m plan call s).log ≡ account_of (the i (done m plan call s).table)
+  module _ (i : ℕ) (lo : 1 ≤ i) (hi : i ≤ rules.plan.n) where
+    does_party : (call : Call) (s : Play) → number rules call s ≡ 0 → rules.plan.n ≤ length s.table.parties →
+        told_of rules.plan.kind i s.log ≡ account_of (the i s.table) → told_of rules.plan.kind i (done rules call s).log ≡ account_of (the i (done rules call s).table)
     does_party Tick s z long e =
-        timers plan.kind plan.n i lo hi (patience m plan.kind) m.tmin (trip m) (rounded m plan.n s) (rounds_long (round_ends s.table) m plan.n s long)
-        (rounds plan.kind plan.n i lo hi (round_ends s.table) m s long e)
-    does_party (Deliver j leg) s z long e = delivers plan.kind plan.n i lo hi (on_leg leg (the j s.table)) j leg s refl (asked_party plan.n j _ z).0 long e
-    does_party (Lose j leg) s z long e = loses_one plan.kind plan.n i lo hi (on_leg leg (the j s.table)) j leg s (asked_party plan.n j _ z).0 long e
-    does_party (Crash j) s z long e = crashes_one plan.kind plan.n i lo hi j s long e
-    does_party (Join j) s z long e = joins_one plan.kind plan.n i lo hi m j s (asked_party plan.n j _ z).0 long e
-    does_party (Leave j) s z long e = leaves_one plan.kind plan.n i lo hi j s (asked_party plan.n j _ z).0 long e
+        timers rules i lo hi (patience rules.meaning rules.plan.kind) rules.meaning.tmin (trip rules.meaning) (rounded rules s) (rounds_long (round_ends s.table) rules s long)
+        (rounds rules i lo hi (round_ends s.table) s long e)
+    does_party (Deliver j leg) s z long e = delivers rules i lo hi (on_leg leg (the j s.table)) j leg s refl (asked_party rules.plan.n j _ z).0 long e
+    does_party (Lose j leg) s z long e = loses_one rules i lo hi (on_leg leg (the j s.table)) j leg s (asked_party rules.plan.n j _ z).0 long e
+    does_party (Crash j) s z long e = crashes_one rules i lo hi j s long e
+    does_party (Join j) s z long e = joins_one rules i lo hi j s (asked_party rules.plan.n j _ z).0 long e
+    does_party (Leave j) s z long e = leaves_one rules i lo hi j s (asked_party rules.plan.n j _ z).0 long e
 
-  performs : (call : Call) (s : Play) (k : ℕ) → number plan room call s ≡ k → AllTold s → AllTold (unless k s (done m plan call s))
+  performs : (call : Call) (s : Play) (k : ℕ) → number rules call s ≡ k → AllTold s → AllTold (unless k s (done rules call s))
   performs call s zero z w = record {
     long = does_long call s w.long;
     tells = record {
@@ -460,21 +470,21 @@ module _ (m : Meaning) (plan : Plan) (room : ℕ) where
   }
   performs call s (suc k) z w = w
 
-  plays : (calls : List Call) (s : Play) → AllTold s → AllTold (played m plan room calls s)
+  plays : (calls : List Call) (s : Play) → AllTold s → AllTold (played rules calls s)
   plays [] s w = w
-  plays (call ∷ calls) s w = plays calls (perform m plan room call s) (performs call s (number plan room call s) refl w)
+  plays (call ∷ calls) s w = plays calls (perform rules call s) (performs call s (number rules call s) refl w)
 
   fresh_told : (kind : GroupKind) → first_account kind ≡ account_of (fresh kind)
   fresh_told kind = grind arith
 
-  opens : AllTold (opened m plan)
+  opens : AllTold (opened rules)
   opens = record {
-    long = omega (arith, plan.few);
+    long = omega (arith, rules.plan.few);
     tells = record {
-      party = λ i lo hi. fresh_told plan.kind ∙ ap account_of (sym (get_or-replicate 32 (i - 1) (fresh plan.kind) nobody (omega (arith, plan.few))));
+      party = λ i lo hi. fresh_told rules.plan.kind ∙ ap account_of (sym (get_or-replicate 32 (i - 1) (fresh rules.plan.kind) nobody (omega (arith, rules.plan.few))));
       root = refl;
     };
   }
 
 pub tells_the_group : RunsTellTheirGroup
-tells_the_group m sound plan room calls = (plays m plan room calls (opened m plan) (opens m plan room)).tells
+tells_the_group rules sound calls = (plays rules calls (opened rules) (opens rules)).tells

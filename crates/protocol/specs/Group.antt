@@ -13,14 +13,12 @@ use Rattle.protocol.specs.declared.table.Root.{Root}
 use Rattle.protocol.specs.declared.table.Root.TheVariants.{Running, Down}
 use Rattle.protocol.specs.declared.table.RootEnding.TheVariants.{Crashed as RootCrashed, Stopped as RootStopped}
 use Rattle.protocol.specs.declared.happening.HappeningKind.{HappeningKind}
-use Rattle.protocol.specs.declared.happening.HappeningKind.TheVariants.{Sent, Arrived, Lost, Enrolled}
-use Rattle.protocol.specs.declared.happening.HappeningKind.TheVariants.{Struck as IsStruck, Crashed as HasCrashed, Stopped as HasStopped, Left as HasLeft, Joining as IsJoining, Leaving as IsLeaving}
+use Rattle.protocol.specs.declared.happening.HappeningKind.TheVariants.{Sent, Arrived, Lost, Enrolled, Struck as IsStruck, Crashed as HasCrashed, Stopped as HasStopped, Left as HasLeft, Joining as IsJoining, Leaving as IsLeaving}
 use Rattle.protocol.specs.declared.happening.Happening.{Happening}
 use Rattle.protocol.specs.declared.table.Table.{Table}
-use Rattle.protocol.specs.declared.plan.Plan.{Plan}
 use Rattle.std.specs.List.{slice_get}
 use Rattle.std.specs.Option.{unwrap_or}
-use Rattle.pace.specs.Meaning.{Meaning}
+use Rattle.protocol.specs.Rules.{Rules}
 use Rattle.protocol.specs.Patience.{trip, patience}
 use Rattle.protocol.specs.Walk.{folds, walks}
 use Rattle.protocol.specs.Party.{live, on_roll, missed_all, missed, sends, times, calls_in, crashes, joined, now_leaving, arrives, on_leg, off_leg, fresh, nobody, silent_end}
@@ -49,19 +47,28 @@ the i t = slice_index_or t.parties (i - 1) nobody
 -- after a call the table counts the records of the log: with other parties, another root, one other party
 abbrev pub with_parties : List Party → List Happening → Table → Play
 with_parties ps log t =
-    record { table = record { clock = t.clock; root = t.root; start = t.start; length = t.length; logged = length log; parties = ps }; log = log }
+    record { table = record t { logged = length log; parties = ps }; log = log }
 
 abbrev pub with_root : Root → List Happening → Table → Play
 with_root r log t =
-    record { table = record { clock = t.clock; root = r; start = t.start; length = t.length; logged = length log; parties = t.parties }; log = log }
+    record { table = record t { root = r; logged = length log }; log = log }
 
 abbrev pub with_party : ℕ → Party → List Happening → Table → Play
 with_party i p log t = with_parties (slice_set t.parties (i - 1) p) log t
 
 -- a new group with an empty log
-abbrev pub opened : Meaning → Plan → Play
-opened m plan =
-    record { table = record { clock = 0; root = Running; start = 0; length = m.tmax; logged = 0; parties = replicate 32 (fresh plan.kind) }; log = [] }
+abbrev pub opened : Rules → Play
+opened rules = record {
+  table = record {
+    clock = 0;
+    root = Running;
+    start = 0;
+    length = rules.meaning.tmax;
+    logged = 0;
+    parties = replicate 32 (fresh rules.plan.kind);
+  };
+  log = [];
+}
 
 abbrev pub runs : Root → Bool
 runs Running = true
@@ -127,8 +134,8 @@ joins_as trip i s =
     with_party i (joined t.clock (t.clock + trip) (length s.log + 1) (the i t)) (tells_of t.clock i Sent (tells_of t.clock i IsJoining s.log)) t
 
 -- party i is joining and sends its first joining beat
-abbrev pub joins : Meaning → ℕ → Play → Play
-joins m i s = joins_as (trip m) i s
+abbrev pub joins : Rules → ℕ → Play → Play
+joins rules i s = joins_as (trip rules.meaning) i s
 
 -- party i is leaving
 abbrev pub leaves : ℕ → Play → Play
@@ -151,7 +158,7 @@ shortest waits tmax n ps = folds (shorter waits) 1 n tmax ps
 -- the group within a tick, whose count of records is set at the end
 abbrev pub amid : List Party → List Happening → Table → Play
 amid ps log t =
-    record { table = record { clock = t.clock; root = t.root; start = t.start; length = t.length; logged = t.logged; parties = ps }; log = log }
+    record { table = record t { parties = ps }; log = log }
 
 -- the parties after a pass over the first n, of which each may lengthen the log
 abbrev pub passed : (ℕ → List Happening → Party → Party) → (ℕ → List Happening → Party → List Happening) → ℕ → Play → Play
@@ -173,37 +180,36 @@ sent last n s = passed (λ _ log p. sends last (length log) p) (λ _ log p. send
 abbrev pub stopped : Play → Play
 stopped s =
     let t = s.table in
-    record {
-      table = record { clock = t.clock; root = Down RootStopped t.clock; start = t.start; length = t.length; logged = t.logged; parties = t.parties };
-      log = tells_of t.clock 0 HasStopped s.log;
-    }
+    record { table = record t { root = Down RootStopped t.clock }; log = tells_of t.clock 0 HasStopped s.log }
 
 -- a round of length w starts at the clock
 abbrev pub started : ℕ → Play → Play
 started w s =
     let t = s.table in
-    record { table = record { clock = t.clock; root = t.root; start = t.clock; length = w; logged = t.logged; parties = t.parties }; log = s.log }
+    record { table = record t { start = t.clock; length = w }; log = s.log }
 
-abbrev pub settled_as : Bool → Meaning → ℕ → Play → Play
-settled_as true m n s = stopped s
-settled_as false m n s =
+abbrev pub settled_as : Bool → Rules → Play → Play
+settled_as true rules s = stopped s
+settled_as false rules s =
+    let n = rules.plan.n in let m = rules.meaning in
     sent (s.table.clock + trip m) n (started (shortest m.waits m.tmax n s.table.parties) s)
 
 -- once the misses are counted: the root stops where a party has missed all rounds, otherwise it starts the next round and sends
-abbrev pub settled : Meaning → ℕ → Play → Play
-settled m n s = settled_as (any (missed_all (length m.waits)) n s.table.parties) m n s
+abbrev pub settled : Rules → Play → Play
+settled rules s =
+    settled_as (any (missed_all (length rules.meaning.waits)) rules.plan.n s.table.parties) rules s
 
-abbrev pub rounded_as : Bool → Meaning → ℕ → Play → Play
-rounded_as true m n s = settled m n (counted n s)
-rounded_as false m n s = s
+abbrev pub rounded_as : Bool → Rules → Play → Play
+rounded_as true rules s = settled rules (counted rules.plan.n s)
+rounded_as false rules s = s
 
 -- the root runs, and the clock is at the end of the round
 abbrev pub round_ends : Table → Bool
 round_ends t = runs t.root && t.clock == t.start + t.length
 
 -- the root acts, at the end of a round only
-abbrev pub rounded : Meaning → ℕ → Play → Play
-rounded m n s = rounded_as (round_ends s.table) m n s
+abbrev pub rounded : Rules → Play → Play
+rounded rules s = rounded_as (round_ends s.table) rules s
 
 -- the kind of record that tells of such an end
 abbrev pub ended_word : Ending → HappeningKind
@@ -241,8 +247,10 @@ timed patience tmin trip n s =
 abbrev pub later : Play → Play
 later s =
     let t = s.table in
-    record { table = record { clock = t.clock + 1; root = t.root; start = t.start; length = t.length; logged = length s.log; parties = t.parties }; log = s.log }
+    record { table = record t { clock = t.clock + 1; logged = length s.log }; log = s.log }
 
 -- a tick closes: first the root, then each other party, then the clock
-abbrev pub ticked : Meaning → Plan → Play → Play
-ticked m plan s = later (timed (patience m plan.kind) m.tmin (trip m) plan.n (rounded m plan.n s))
+abbrev pub ticked : Rules → Play → Play
+ticked rules s =
+    let m = rules.meaning in
+    later (timed (patience m rules.plan.kind) m.tmin (trip m) rules.plan.n (rounded rules s))

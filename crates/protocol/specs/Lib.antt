@@ -4,6 +4,7 @@ pub mod Kinds
 pub mod Answers
 pub mod Plans
 pub mod Patience
+pub mod Rules
 pub mod Walk
 pub mod Party
 pub mod Group

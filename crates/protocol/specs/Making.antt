@@ -1,8 +1,7 @@
 -- Calls made one after another, up to the first refusal.
 use Rattle.std.specs.Prelude.{◌≡◌, ℕ, zero, suc, List, [], ◌∷◌}
-use Rattle.pace.specs.Meaning.{Meaning}
-use Rattle.protocol.specs.declared.plan.Plan.{Plan}
 use Rattle.protocol.specs.declared.call.Call.{Call}
+use Rattle.protocol.specs.Rules.{Rules}
 use Rattle.protocol.specs.Group.{Play}
 use Rattle.protocol.specs.Runs.{number, perform}
 
@@ -18,10 +17,10 @@ goes_on zero call s rest = record { play = rest.play; calls = call ∷ rest.call
 goes_on (suc k) call s rest = record { play = s; calls = call ∷ []; number = suc k }
 
 -- calls made one after another, up to the first that is refused
-abbrev pub makes : Meaning → Plan → ℕ → List Call → Play → Making
-makes m plan room [] s = record { play = s; calls = []; number = 0 }
-makes m plan room (call ∷ calls) s =
-    goes_on (number plan room call s) call s (makes m plan room calls (perform m plan room call s))
+abbrev pub makes : Rules → List Call → Play → Making
+makes rules [] s = record { play = s; calls = []; number = 0 }
+makes rules (call ∷ calls) s =
+    goes_on (number rules call s) call s (makes rules calls (perform rules call s))
 
 -- two makings came to the same group and log, and to the same refusal
 pub record Same (a b : Making) : Type 0 where

@@ -2,9 +2,9 @@
 use Rattle.std.specs.Prelude.{◌≡◌, ℕ, Bool, true, ◌<◌, ◌≤◌, ◌↔◌, List, length, ◌≢◌}
 use Rattle.std.specs.List.Sorted.{IsNonDecreasingBy}
 use Rattle.protocol.specs.declared.happening.Happening.{Happening}
-use Rattle.protocol.specs.declared.plan.Plan.{Plan}
 use Rattle.protocol.specs.declared.call.Call.{Call}
-use Rattle.pace.specs.Meaning.{Meaning, Lawful}
+use Rattle.pace.specs.Meaning.{Lawful}
+use Rattle.protocol.specs.Rules.{Rules}
 use Rattle.protocol.specs.Group.{Play, opened}
 use Rattle.protocol.specs.Runs.{tick_of, number, played}
 use Rattle.protocol.specs.Beats.{happening_at}
@@ -29,13 +29,13 @@ TellsOwnLog answer s = IsNonDecreasingBy tick_of s.log → (answer ≡ true) ↔
 
 -- the log is in order, each record is of the root or a party of the plan, the group has counted them,
 -- and so no call is refused because the log is another's
-pub record LogInOrder (plan : Plan) (s : Play) : Type 0 where
+pub record LogInOrder (rules : Rules) (s : Play) : Type 0 where
   pub in_order : InOrder s.table.clock s.log
-  pub owned : OwnedUpTo plan.n s.log
+  pub owned : OwnedUpTo rules.plan.n s.log
   pub counted : s.table.logged ≡ length s.log
-  pub never_another : (room : ℕ) (call : Call) → number plan room call s ≢ 13
+  pub never_another : (room : ℕ) (call : Call) → number (record rules { room = room }) call s ≢ 13
 
 -- every run keeps its log in order
 abbrev pub RunsKeepTheirLogInOrder : Type 0
 RunsKeepTheirLogInOrder =
-    (m : Meaning) → Lawful m → (plan : Plan) (room : ℕ) (calls : List Call) → LogInOrder plan (played m plan room calls (opened m plan))
+    (rules : Rules) → Lawful rules.meaning → (calls : List Call) → LogInOrder rules (played rules calls (opened rules))

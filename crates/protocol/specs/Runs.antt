@@ -11,7 +11,7 @@ use Rattle.protocol.specs.declared.plan.Plan.{Plan}
 use Rattle.protocol.specs.declared.call.Call.{Call}
 use Rattle.protocol.specs.declared.call.Call.TheVariants.{Tick, Deliver, Lose, Crash, Join, Leave}
 use Rattle.slots.specs.Slots.{last_time}
-use Rattle.pace.specs.Meaning.{Meaning}
+use Rattle.protocol.specs.Rules.{Rules}
 use Rattle.protocol.specs.Party.{live, due, on_leg}
 use Rattle.protocol.specs.Group.{Play, the, any, runs, delivered, loses, crashed, joins, leaves, ticked, opened}
 
@@ -75,27 +75,52 @@ abbrev pub can_crash : ℕ → Play → Bool
 can_crash zero s = runs s.table.root
 can_crash (suc i) s = live (the (suc i) s.table).own.standing
 
--- the number of the refusal of a call, 0 for none, with so many slots for the log
-abbrev pub number : Plan → ℕ → Call → Play → ℕ
-number plan room Tick s =
+-- the number of the first question that is answered no, 0 where each has a yes: of a tick
+abbrev pub tick_number : Plan → ℕ → Play → ℕ
+tick_number plan room s =
     asks (nat_lt s.table.clock 4000000000) 10
     (asks (not (any (due s.table.clock) plan.n s.table.parties)) 11 (log_asks (2 * plan.n) room s))
-number plan room (Deliver i leg) s = asks (is_party plan.n i) 6 (asks (is_there (on_leg leg (the i s.table))) 9 (log_asks 2 room s))
-number plan room (Lose i leg) s = asks (is_party plan.n i) 6 (asks (is_there (on_leg leg (the i s.table))) 9 (log_asks 2 room s))
-number plan room (Crash i) s = asks (nat_le i plan.n) 6 (asks (can_crash i s) 8 (log_asks 2 room s))
-number plan room (Join i) s =
-    asks (is_party plan.n i) 6 (asks (may_join plan.kind) 7 (asks (is_outside (the i s.table).own.standing) 8 (log_asks 2 room s)))
-number plan room (Leave i) s =
-    asks (is_party plan.n i) 6 (asks (may_leave plan.kind) 7 (asks (is_in (the i s.table).own.standing) 8 (log_asks 2 room s)))
+
+-- of a delivery or a loss
+abbrev pub beat_number : Plan → ℕ → ℕ → ℕ → Play → ℕ
+beat_number plan room i leg s =
+    asks (is_party plan.n i) 6 (asks (is_there (on_leg leg (the i s.table))) 9 (log_asks 2 room s))
+
+-- of a crash
+abbrev pub crash_number : Plan → ℕ → ℕ → Play → ℕ
+crash_number plan room i s = asks (nat_le i plan.n) 6 (asks (can_crash i s) 8 (log_asks 2 room s))
+
+-- of a joining
+abbrev pub join_number : Plan → ℕ → ℕ → Play → ℕ
+join_number plan room i s =
+    asks (is_party plan.n i) 6
+    (asks (may_join plan.kind) 7
+    (asks (is_outside (the i s.table).own.standing) 8 (log_asks 2 room s)))
+
+-- of a leaving
+abbrev pub leave_number : Plan → ℕ → ℕ → Play → ℕ
+leave_number plan room i s =
+    asks (is_party plan.n i) 6
+    (asks (may_leave plan.kind) 7
+    (asks (is_in (the i s.table).own.standing) 8 (log_asks 2 room s)))
+
+-- the number of the refusal of a call, 0 for none
+abbrev pub number : Rules → Call → Play → ℕ
+number rules Tick s = tick_number rules.plan rules.room s
+number rules (Deliver i leg) s = beat_number rules.plan rules.room i leg s
+number rules (Lose i leg) s = beat_number rules.plan rules.room i leg s
+number rules (Crash i) s = crash_number rules.plan rules.room i s
+number rules (Join i) s = join_number rules.plan rules.room i s
+number rules (Leave i) s = leave_number rules.plan rules.room i s
 
 -- the group and its log after a call that is not refused
-abbrev pub done : Meaning → Plan → Call → Play → Play
-done m plan Tick s = ticked m plan s
-done m plan (Deliver i leg) s = delivered i leg s
-done m plan (Lose i leg) s = loses i leg s
-done m plan (Crash i) s = crashed i s
-done m plan (Join i) s = joins m i s
-done m plan (Leave i) s = leaves i s
+abbrev pub done : Rules → Call → Play → Play
+done rules Tick s = ticked rules s
+done rules (Deliver i leg) s = delivered i leg s
+done rules (Lose i leg) s = loses i leg s
+done rules (Crash i) s = crashed i s
+done rules (Join i) s = joins rules i s
+done rules (Leave i) s = leaves i s
 
 -- a refused call changes nothing
 abbrev pub unless : ℕ → Play → Play → Play
@@ -103,22 +128,22 @@ unless zero s t = t
 unless (suc k) s t = s
 
 -- the group and its log after a call
-abbrev pub perform : Meaning → Plan → ℕ → Call → Play → Play
-perform m plan room call s = unless (number plan room call s) s (done m plan call s)
+abbrev pub perform : Rules → Call → Play → Play
+perform rules call s = unless (number rules call s) s (done rules call s)
 
 -- a run: the group and its log after the calls, in their order
-abbrev pub played : Meaning → Plan → ℕ → List Call → Play → Play
-played m plan room [] s = s
-played m plan room (call ∷ calls) s = played m plan room calls (perform m plan room call s)
+abbrev pub played : Rules → List Call → Play → Play
+played rules [] s = s
+played rules (call ∷ calls) s = played rules calls (perform rules call s)
 
 -- the group and its log that the calls lead to, from the opening on
-abbrev pub reached : Meaning → Plan → ℕ → List Call → Play
-reached m plan room calls = played m plan room calls (opened m plan)
+abbrev pub reached : Rules → List Call → Play
+reached rules calls = played rules calls (opened rules)
 
 -- the answers of a run
-abbrev pub answered : Meaning → Plan → ℕ → List Call → Play → List ℕ
-answered m plan room [] s = []
-answered m plan room (call ∷ calls) s = number plan room call s ∷ answered m plan room calls (perform m plan room call s)
+abbrev pub answered : Rules → List Call → Play → List ℕ
+answered rules [] s = []
+answered rules (call ∷ calls) s = number rules call s ∷ answered rules calls (perform rules call s)
 
 -- a loss or a crash
 abbrev pub harms : Call → Bool
