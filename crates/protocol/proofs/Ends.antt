@@ -15,8 +15,8 @@ use Rattle.protocol.specs.declared.table.RootEnding.{RootEnding}
 use Rattle.protocol.specs.declared.kind.GroupKind.{GroupKind}
 use Rattle.protocol.specs.declared.plan.Plan.{Plan}
 use Rattle.pace.specs.Meaning.{Lawful}
-use Rattle.protocol.specs.Group.{Play, the, opened}
-use Rattle.protocol.specs.Runs.{played}
+use Rattle.protocol.specs.State.{State, the, opening}
+use Rattle.protocol.specs.Runs.{state_after}
 use Rattle.protocol.specs.Rules.{Rules}
 use Rattle.protocol.specs.Laws.{RootFollows, PartiesFollow, StopsForCause, NobodyStopped, RunsEndTogetherForCause}
 use Rattle.protocol.specs.Kept.{Terms, LawfulTerms, Kept, Scene, Whole, terms}
@@ -49,25 +49,25 @@ module _ (rules : Rules) (sound : Lawful rules.meaning) where
   law : LawfulTerms M plan.kind
   law = lawful rules.meaning sound plan.kind
 
-  root_follows : (q : Bool) (s : Play) → Whole M plan.kind q plan.n s.table → RootFollows rules s
+  root_follows : (q : Bool) (s : State) → Whole M plan.kind q plan.n s.table → RootFollows rules s
   root_follows q s w = record {
     root_follows = λ i e lo hi on end late.
         root_down M plan.kind law q _ _ _ _ _ end.0 e end.1 w.scene (w.each (i - 1) (omega arith)) on end.2 late;
   }
 
-  parties_follow : (q : Bool) (s : Play) → Whole M plan.kind q plan.n s.table → PartiesFollow rules s
+  parties_follow : (q : Bool) (s : State) → Whole M plan.kind q plan.n s.table → PartiesFollow rules s
   parties_follow q s w = record {
     parties_follow = λ r i down late lo hi on.
         party_down M plan.kind law q s.table.clock s.table.start s.table.length (the i s.table) (the i s.table).own.standing r down.0
         (subst (λ x. Kept M plan.kind q s.table.clock x s.table.start s.table.length (the i s.table)) down.1 (w.each (i - 1) (omega arith))) on late refl;
   }
 
-  stops_for_cause : (q : Bool) (s : Play) → Whole M plan.kind q plan.n s.table → StopsForCause rules s
+  stops_for_cause : (q : Bool) (s : State) → Whole M plan.kind q plan.n s.table → StopsForCause rules s
   stops_for_cause q s w = record {
     stops_for_cause = λ i e lo hi is. for_cause M plan.kind law q _ _ _ _ s.table.root e (w.each (i - 1) (omega arith)) is;
   }
 
-  nobody_stopped : (s : Play) → Whole M plan.kind true plan.n s.table → NobodyStopped rules s
+  nobody_stopped : (s : State) → Whole M plan.kind true plan.n s.table → NobodyStopped rules s
   nobody_stopped s w = record {
     root_not = λ e is. let k = w.each 0 plan.some in absurd (grind arith);
     party_not = λ i e g lo hi is. let k = w.each (i - 1) (omega arith) in absurd (grind arith);
@@ -75,8 +75,8 @@ module _ (rules : Rules) (sound : Lawful rules.meaning) where
 
 pub laws : RunsEndTogetherForCause
 laws rules sound calls =
-    let s = played rules calls (opened rules) in
-    let w = plays rules sound true calls (opened rules) (opens rules sound true) in
+    let s = state_after rules calls (opening rules) in
+    let w = plays rules sound true calls (opening rules) (opens rules sound true) in
     record {
       root_follows = root_follows rules sound _ s w;
       parties_follow = parties_follow rules sound _ s w;

@@ -9,12 +9,13 @@ use Rattle.protocol.specs.declared.happening.Happening.{Happening}
 use Rattle.protocol.specs.declared.table.Table.{Table}
 use Rattle.protocol.specs.declared.plan.Plan.{Plan}
 use Rattle.protocol.specs.declared.call.Call.TheVariants.{Tick}
-use Rattle.protocol.specs.Patience.{trip, patience}
-use Rattle.protocol.specs.Party.{nobody, due, calls_in, times, times_as, times_live}
-use Rattle.protocol.specs.Rules.{Rules}
-use Rattle.protocol.specs.Group.{Play, any, amid, timer_log, live_word, tells_if, timed, rounded, rounded_as, later, ticked}
-use Rattle.protocol.specs.Runs.{asks, log_asks, is_own_log, number, perform, unless}
-use Rattle.protocol.specs.Making.{makes, Same}
+use Rattle.protocol.specs.Rules.{trip, patience, Rules}
+use Rattle.protocol.specs.Party.{nobody}
+use Rattle.protocol.specs.calls.Tick.{due, calls_in, times, times_as, times_live, any, amid, timer_log, live_word, tells_if, after_timers, after_round, after_round_if, after_clock, after_tick}
+use Rattle.protocol.specs.State.{State}
+use Rattle.protocol.specs.Questions.{asks, log_asks, is_own_log}
+use Rattle.protocol.specs.Runs.{number, perform, unless}
+use Rattle.protocol.specs.Making.{making, Same}
 use Rattle.protocol.specs.Quiet.{clocked, at_clock, timer_rests, Rests, Quiet, QuietUntil}
 use Rattle.protocol.proofs.Walks.{walks_still}
 use Rattle.protocol.proofs.Making.{same_trans, tick_on}
@@ -48,10 +49,10 @@ never_quiet m plan t = record { limit = λ h. omega arith; quiet = λ c from bef
 -- what is quiet from the clock on is quiet from a tick later on
 pub quiet_later : (m : Meaning) (plan : Plan) (t : Table) (b : ℕ) → t.clock < b → QuietUntil m plan t b → QuietUntil m plan (clocked (t.clock + 1) t) b
 quiet_later m plan t b h u =
-    record { limit = λ later. u.limit h; quiet = λ c from before. let q = u.quiet c (omega (arith, from)) before in record { root = q.root; parties = q.parties } }
+    record { limit = λ after_clock. u.limit h; quiet = λ c from before. let q = u.quiet c (omega (arith, from)) before in record { root = q.root; parties = q.parties } }
 
 module _ (rules : Rules) where
-  abbrev log_ready : Play → Type 0
+  abbrev log_ready : State → Type 0
   log_ready s = log_asks (2 * rules.plan.n) rules.room s ≡ 0
 
   none_due : (t : Table) (c : ℕ) → Quiet rules.meaning rules.plan t c → any (due c) rules.plan.n t.parties ≡ false
@@ -60,16 +61,16 @@ module _ (rules : Rules) where
       (λ k h. (q.parties k h).legs)).1
 
   -- where nothing is due, the log alone may refuse a tick
-  pub quiet_asks : (s : Play) → s.table.clock < 4000000000 → Quiet rules.meaning rules.plan s.table s.table.clock → number rules Tick s ≡ log_asks (2 * rules.plan.n) rules.room s
+  pub quiet_asks : (s : State) → s.table.clock < 4000000000 → Quiet rules.meaning rules.plan s.table s.table.clock → number rules Tick s ≡ log_asks (2 * rules.plan.n) rules.room s
   quiet_asks s h q =
       ap₂ (λ a b. asks a 10 (asks (not b) 11 (log_asks (2 * rules.plan.n) rules.room s))) (lt-ltb s.table.clock 4000000000 h) (none_due s.table s.table.clock q)
 
-  own_length : (s : Play) → log_ready s → length s.log ≡ s.table.logged
+  own_length : (s : State) → log_ready s → length s.log ≡ s.table.logged
   own_length s e =
       let own = (asked_log (leb (length s.log + 2 * rules.plan.n) rules.room) (is_own_log s) e).1 in
       eqb-true (length s.log) s.table.logged (grind (arith, nat_tests))
 
-  timed_still : (s : Play) → Quiet rules.meaning rules.plan s.table s.table.clock → timed (patience rules.meaning rules.plan.kind) rules.meaning.tmin (trip rules.meaning) rules.plan.n s ≡ s
+  timed_still : (s : State) → Quiet rules.meaning rules.plan s.table s.table.clock → after_timers (patience rules.meaning rules.plan.kind) rules.meaning.tmin (trip rules.meaning) rules.plan.n s ≡ s
   timed_still s q =
       let t = s.table in
       let d = patience rules.meaning rules.plan.kind in
@@ -79,29 +80,29 @@ module _ (rules : Rules) where
       ap₂ (λ ps log. amid ps log t) w.0 w.1
 
   -- a tick that is not refused and at which nothing is due only counts the clock
-  pub quiet_tick_only_counts : (s : Play) → number rules Tick s ≡ 0 → log_ready s → Quiet rules.meaning rules.plan s.table s.table.clock →
+  pub quiet_tick_only_counts : (s : State) → number rules Tick s ≡ 0 → log_ready s → Quiet rules.meaning rules.plan s.table s.table.clock →
       perform rules Tick s ≡ at_clock (s.table.clock + 1) s
   quiet_tick_only_counts s z e q =
-      let round : rounded rules s ≡ s = ap (λ b. rounded_as b rules s) q.root in
-      let timers = ap (λ x. timed (patience rules.meaning rules.plan.kind) rules.meaning.tmin (trip rules.meaning) rules.plan.n x) round ∙ timed_still s q in
-      ap (λ k. unless k s (ticked rules s)) z ∙ ap later timers
+      let round : after_round rules s ≡ s = ap (λ b. after_round_if b rules s) q.root in
+      let timers = ap (λ x. after_timers (patience rules.meaning rules.plan.kind) rules.meaning.tmin (trip rules.meaning) rules.plan.n x) round ∙ timed_still s q in
+      ap (λ k. unless k s (after_tick rules s)) z ∙ ap after_clock timers
       ∙ ap (λ (k : ℕ). record { table = record { clock = s.table.clock + 1; root = s.table.root; start = s.table.start; length = s.table.length; logged = k; parties = s.table.parties }; log = s.log }) (own_length s e)
 
   -- the log that fits the clock fits a later one
-  ready_later : (s : Play) (c : ℕ) → s.table.clock ≤ c → log_ready s → log_ready (at_clock c s)
+  ready_later : (s : State) (c : ℕ) → s.table.clock ≤ c → log_ready s → log_ready (at_clock c s)
   ready_later s c h e =
       let slots = leb (length s.log + 2 * rules.plan.n) rules.room in
       let own = asked_log slots (is_own_log s) e in
-      let later : is_own_log (at_clock c s) ≡ true = grind (arith, nat_tests) in
-      ap₂ (λ a b. asks a 12 (asks b 13 0)) own.0 later
+      let after_clock : is_own_log (at_clock c s) ≡ true = grind (arith, nat_tests) in
+      ap₂ (λ a b. asks a 12 (asks b 13 0)) own.0 after_clock
 
-  quiet_on : (d : ℕ) (until : ℕ) (s : Play) (c : ℕ) → c ≡ s.table.clock + d → c ≤ until → c ≤ 4000000000 → log_ready s →
+  quiet_on : (d : ℕ) (until : ℕ) (s : State) (c : ℕ) → c ≡ s.table.clock + d → c ≤ until → c ≤ 4000000000 → log_ready s →
       ((k : ℕ) → s.table.clock ≤ k → k < c → Quiet rules.meaning rules.plan s.table k) →
-      Same (makes rules (replicate (until - s.table.clock) Tick) s) (makes rules (replicate (until - c) Tick) (at_clock c s))
+      Same (making rules (replicate (until - s.table.clock) Tick) s) (making rules (replicate (until - c) Tick) (at_clock c s))
   quiet_on zero until s c e low limit ready q =
       let same : s.table.clock ≡ c = omega arith in
-      subst (λ (x : ℕ). Same (makes rules (replicate (until - s.table.clock) Tick) s) (makes rules (replicate (until - x) Tick) (at_clock x s))) same
-      (record { play = refl; number = refl })
+      subst (λ (x : ℕ). Same (making rules (replicate (until - s.table.clock) Tick) s) (making rules (replicate (until - x) Tick) (at_clock x s))) same
+      (record { state = refl; number = refl })
   quiet_on (suc d) until s c e low limit ready q =
       let now = s.table.clock in
       let s₁ = at_clock (now + 1) s in
@@ -112,9 +113,9 @@ module _ (rules : Rules) where
       (quiet_on d until s₁ c (omega arith) low limit (ready_later s (now + 1) (omega arith) ready) (λ k a b. let r = q k (omega arith) b in record { root = r.root; parties = r.parties }))
 
   -- ticks of which the first is not refused, at which nothing is due up to clock c, only count the clock
-  pub quiet_ticks_only_count : (until : ℕ) (s : Play) (c : ℕ) → number rules Tick s ≡ 0 → s.table.clock ≤ c → c ≤ until → c ≤ 4000000000 →
+  pub quiet_ticks_only_count : (until : ℕ) (s : State) (c : ℕ) → number rules Tick s ≡ 0 → s.table.clock ≤ c → c ≤ until → c ≤ 4000000000 →
       ((k : ℕ) → s.table.clock ≤ k → k < c → Quiet rules.meaning rules.plan s.table k) →
-      Same (makes rules (replicate (until - s.table.clock) Tick) s) (makes rules (replicate (until - c) Tick) (at_clock c s))
+      Same (making rules (replicate (until - s.table.clock) Tick) s) (making rules (replicate (until - c) Tick) (at_clock c s))
   quiet_ticks_only_count until s c z h low limit q =
       quiet_on (c - s.table.clock) until s c (omega arith) low limit
       (asked_tick (ltb s.table.clock 4000000000) (not (any (due s.table.clock) rules.plan.n s.table.parties)) (log_asks (2 * rules.plan.n) rules.room s) z) q

@@ -3,8 +3,8 @@ use Rattle.std.proofs.Common.{◌≡◌, ℕ, zero, suc, List, [], ◌∷◌, �
 use Rattle.protocol.specs.declared.call.Step.{Step}
 use Rattle.pace.specs.Meaning.{Lawful}
 use Rattle.protocol.specs.Rules.{Rules}
-use Rattle.protocol.specs.Group.{Play, opened}
-use Rattle.protocol.specs.Answers.{told}
+use Rattle.protocol.specs.State.{State, opening}
+use Rattle.protocol.specs.Answers.{number_told}
 use Rattle.protocol.specs.Runs.{number, perform}
 use Rattle.protocol.specs.Laws.{EndTogetherForCause}
 use Rattle.protocol.specs.Beats.{BeatsAreLogged, SendingsSettleOnce}
@@ -33,21 +33,21 @@ map_set f (x ∷ xs) (suc i) y d e = ap (λ zs. f x ∷ zs) (map_set f xs i y d 
 
 module _ (rules : Rules) where
   -- one step more
-  pub more : (s : Play) (xs : List Step) (s' : Play) (x : Step) (s'' : Play) → Rehearsed rules s xs s' → told x.answer ≡ number rules x.call s' →
+  pub more : (s : State) (xs : List Step) (s' : State) (x : Step) (s'' : State) → Rehearsed rules s xs s' → number_told x.answer ≡ number rules x.call s' →
       s'' ≡ perform rules x.call s' → Rehearsed rules s (xs ++ (x ∷ [])) s''
-  more s [] s' x s'' h a e = (subst (λ t. told x.answer ≡ number rules x.call t) h a, e ∙ ap (perform rules x.call) h)
+  more s [] s' x s'' h a e = (subst (λ t. number_told x.answer ≡ number rules x.call t) h a, e ∙ ap (perform rules x.call) h)
   more s (y ∷ ys) s' x s'' h a e = (h.0, more (perform rules y.call s) ys s' x s'' h.1 a e)
 
   -- some steps and then others
-  pub then : (s : Play) (xs : List Step) (s' : Play) (ys : List Step) (s'' : Play) → Rehearsed rules s xs s' → Rehearsed rules s' ys s'' → Rehearsed rules s (xs ++ ys) s''
+  pub then : (s : State) (xs : List Step) (s' : State) (ys : List Step) (s'' : State) → Rehearsed rules s xs s' → Rehearsed rules s' ys s'' → Rehearsed rules s (xs ++ ys) s''
   then s [] s' ys s'' h k = subst (λ t. Rehearsed rules t ys s'') h k
   then s (x ∷ xs) s' ys s'' h k = (h.0, then (perform rules x.call s) xs s' ys s'' h.1 k)
 
   -- the promise of a run, over its steps
-  pub keeps : Lawful rules.meaning → (xs : List Step) (s' : Play) → Rehearsed rules (opened rules) xs s' → KeepsTheRules rules xs s'
+  pub keeps : Lawful rules.meaning → (xs : List Step) (s' : State) → Rehearsed rules (opening rules) xs s' → KeepsTheRules rules xs s'
   keeps sound xs s' h =
       let calls = map call_of xs in
-      let r = run_of rules (opened rules) xs s' h in
+      let r = run_of rules (opening rules) xs s' h in
       let back = sym r.0 in
       let e : EndTogetherForCause rules calls (map answer_of xs) s' =
       subst₂ (λ ks t. EndTogetherForCause rules calls ks t) (sym r.1) back (laws rules sound calls) in
@@ -71,4 +71,4 @@ module _ (rules : Rules) where
 
 pub shows : RunsShowTheirBeats
 shows rules sound steps s h =
-    (subst (BeatsAreLogged rules) (sym (run_of rules (opened rules) steps s h).0) (logs_beats rules (map call_of steps)), are_the_deliveries rules steps s h)
+    (subst (BeatsAreLogged rules) (sym (run_of rules (opening rules) steps s h).0) (logs_beats rules (map call_of steps)), are_the_deliveries rules steps s h)

@@ -13,11 +13,12 @@ use Rattle.protocol.specs.declared.happening.Happening.{Happening}
 use Rattle.protocol.specs.declared.call.Call.{Call}
 use Rattle.protocol.specs.declared.call.Call.TheVariants.{Tick, Deliver, Lose, Crash, Join, Leave}
 use Rattle.pace.specs.Meaning.{Meaning, Lawful}
-use Rattle.protocol.specs.Patience.{trip, patience}
-use Rattle.protocol.specs.Party.{beat, nobody, on_leg, missed, sends, sends_as, missed_all, times, times_as, times_live, calls_in}
-use Rattle.protocol.specs.Rules.{Rules}
-use Rattle.protocol.specs.Group.{Play, the, sender, any, counted, settled_as, rounded_as, rounded, round_ends, timed, opened}
-use Rattle.protocol.specs.Runs.{number, done, unless, perform, played, reached}
+use Rattle.protocol.specs.Rules.{trip, patience, Rules}
+use Rattle.protocol.specs.Party.{beat, nobody, on_leg}
+use Rattle.protocol.specs.calls.Tick.{missed, sends, sends_as, missed_all, times, times_as, times_live, calls_in, any, after_count, after_verdict_of, after_round_if, after_round, round_ends, after_timers}
+use Rattle.protocol.specs.State.{State, the, opening}
+use Rattle.protocol.specs.calls.Lose.{sender}
+use Rattle.protocol.specs.Runs.{number, effect, unless, perform, state_after, run_state}
 use Rattle.protocol.specs.Rehearsals.{adds}
 use Rattle.protocol.specs.Beats.{is_arrival, is_loss, settles, happening_at, SentBy}
 use Rattle.protocol.specs.Sendings.{UnderWay}
@@ -76,56 +77,56 @@ module _ (rules : Rules) (k : ℕ) (h : k < rules.plan.n) (p₀ : Party) (c : �
   abbrev m : Meaning
   m = rules.meaning
 
-  abbrev At : Play → Type 0
+  abbrev At : State → Type 0
   At s = Fresh p₀ (c + trip m) (get_or s.table.parties k nobody)
 
-  counts : (s : Play) → n ≤ length s.table.parties → At s → At (counted n s)
+  counts : (s : State) → n ≤ length s.table.parties → At s → At (after_count n s)
   counts s long f = walks_each _ _ (Fresh p₀ (c + trip m)) (Fresh p₀ (c + trip m)) (λ _ (u : ℕ) p f. f) 1 n 0 s.table.parties nobody k h long f
 
-  settles_round : (b : Bool) (s : Play) → s.table.clock ≡ c → n ≤ length s.table.parties → At s → At (settled_as b rules s)
+  settles_round : (b : Bool) (s : State) → s.table.clock ≡ c → n ≤ length s.table.parties → At s → At (after_verdict_of b rules s)
   settles_round true s e long f = f
   settles_round false s e long f =
       walks_each _ _ (Fresh p₀ (c + trip m)) (Fresh p₀ (c + trip m))
       (λ _ log p f. subst (λ x. Fresh p₀ (c + trip m) (sends (x + trip m) (length log) p)) (sym e) (sends_fresh p.note.roll p₀ (c + trip m) (length log) p f))
       1 n s.log s.table.parties nobody k h long f
 
-  rounds : (b : Bool) (s : Play) → s.table.clock ≡ c → n ≤ length s.table.parties → At s → At (rounded_as b rules s)
+  rounds : (b : Bool) (s : State) → s.table.clock ≡ c → n ≤ length s.table.parties → At s → At (after_round_if b rules s)
   rounds true s e long f =
-      settles_round (any (missed_all (length m.waits)) n (counted n s).table.parties) (counted n s) e
+      settles_round (any (missed_all (length m.waits)) n (after_count n s).table.parties) (after_count n s) e
       (walks_long (λ _ (u : ℕ) p. missed p) (λ _ (u : ℕ) _. u) 1 n 0 s.table.parties n long) (counts s long f)
   rounds false s e long f = f
 
-  timers : (d l : ℕ) (s : Play) → s.table.clock ≡ c → n ≤ length s.table.parties → At s → At (timed d l (trip m) n s)
+  timers : (d l : ℕ) (s : State) → s.table.clock ≡ c → n ≤ length s.table.parties → At s → At (after_timers d l (trip m) n s)
   timers d l s e long f =
       walks_each _ _ (Fresh p₀ (c + trip m)) (Fresh p₀ (c + trip m))
       (λ _ log p f. subst (λ x. Fresh p₀ (c + trip m) (times x d l (x + trip m) (length log) p)) (sym e) (times_fresh p.own.standing p₀ c d l (c + trip m) (length log) p f))
       1 n s.log s.table.parties nobody k h long f
 
 module _ (rules : Rules) (sound : Lawful rules.meaning) where
-  performed : (call : Call) (s : Play) → number rules call s ≡ 0 → perform rules call s ≡ done rules call s
-  performed call s z = ap (λ k. unless k s (done rules call s)) z
+  performed : (call : Call) (s : State) → number rules call s ≡ 0 → perform rules call s ≡ effect rules call s
+  performed call s z = ap (λ k. unless k s (effect rules call s)) z
 
   -- a call that is no tick leaves the clock
-  later : (before : List Call) (call : Call) (i leg : ℕ) (b : Beat) → let s = reached rules before in
-      number rules call s ≡ 0 → 1 ≤ i → i ≤ rules.plan.n → on_leg leg (the i (done rules call s).table) ≡ Some b → adds call true ≡ 0 →
+  later : (before : List Call) (call : Call) (i leg : ℕ) (b : Beat) → let s = run_state rules before in
+      number rules call s ≡ 0 → 1 ≤ i → i ≤ rules.plan.n → on_leg leg (the i (effect rules call s).table) ≡ Some b → adds call true ≡ 0 →
       b.last ≤ s.table.clock + trip rules.meaning
   later before call i leg b z lo hi e still =
-      let s = reached rules before in
-      let same = played_snoc rules before call (opened rules) ∙ performed call s z in
-      let f = last_ticks rules sound (before ++ call ∷ []) i leg b lo hi (subst (λ (t : Play). on_leg leg (the i t.table) ≡ Some b) (sym same) e) in
-      omega (arith, f.1, ap (λ (t : Play). t.table.clock) same, done_clock rules call s, still)
+      let s = run_state rules before in
+      let same = played_snoc rules before call (opening rules) ∙ performed call s z in
+      let f = last_ticks rules sound (before ++ call ∷ []) i leg b lo hi (subst (λ (t : State). on_leg leg (the i t.table) ≡ Some b) (sym same) e) in
+      omega (arith, f.1, ap (λ (t : State). t.table.clock) same, done_clock rules call s, still)
 
   -- a beat that a granted call has put on a leg comes no later than a trip after the call
-  puts : (before : List Call) (call : Call) (i leg : ℕ) (b : Beat) → let s = reached rules before in
-      number rules call s ≡ 0 → 1 ≤ i → i ≤ rules.plan.n → on_leg leg (the i (done rules call s).table) ≡ Some b →
+  puts : (before : List Call) (call : Call) (i leg : ℕ) (b : Beat) → let s = run_state rules before in
+      number rules call s ≡ 0 → 1 ≤ i → i ≤ rules.plan.n → on_leg leg (the i (effect rules call s).table) ≡ Some b →
       (on_leg leg (the i s.table) ≡ Some b) ⊎ (b.last ≤ s.table.clock + trip rules.meaning)
   puts before Tick i leg b z lo hi e =
-      let s = reached rules before in
+      let s = run_state rules before in
       let long = (logged_after rules before).0.long in
       let ends = round_ends s.table in
       let same = rounded_clock rules ends s in
       let p₀ = get_or s.table.parties (i - 1) nobody in
-      elim (timers rules (i - 1) (omega arith) p₀ s.table.clock (patience rules.meaning rules.plan.kind) rules.meaning.tmin (rounded rules s) same (rounds_long ends rules s long)
+      elim (timers rules (i - 1) (omega arith) p₀ s.table.clock (patience rules.meaning rules.plan.kind) rules.meaning.tmin (after_round rules s) same (rounds_long ends rules s long)
       (rounds rules (i - 1) (omega arith) p₀ s.table.clock ends s refl long (λ leg b e. inl e)) leg b e)
       [ inl old ↦ inl old | inr new ↦ inr (omega (arith, new)) ]
   puts before (Deliver j l) i leg b z lo hi e = inr (later before (Deliver j l) i leg b z lo hi e refl)
@@ -137,27 +138,27 @@ module _ (rules : Rules) (sound : Lawful rules.meaning) where
   -- the last tick of a beat on a leg, by its sending
 
   module _ (calls : List Call) (i leg : ℕ) (b : Beat) (lo : 1 ≤ i) (hi : i ≤ rules.plan.n) where
-    written_at : (before : List Call) (call : Call) (k : ℕ) → let now = reached rules before in
+    written_at : (before : List Call) (call : Call) (k : ℕ) → let now = run_state rules before in
         number rules call now ≡ k → length now.log ≤ b.place →
-        SentBy (unless k now (done rules call now)).log (sender leg i) b.place → on_leg leg (the i (unless k now (done rules call now)).table) ≡ Some b →
-        b.last ≤ tick_at (unless k now (done rules call now)).log b.place + trip rules.meaning
+        SentBy (unless k now (effect rules call now)).log (sender leg i) b.place → on_leg leg (the i (unless k now (effect rules call now)).table) ≡ Some b →
+        b.last ≤ tick_at (unless k now (effect rules call now)).log b.place + trip rules.meaning
     written_at before call zero z not_yet written put =
         elim (puts before call i leg b z lo hi put) [
           | inl old ↦ absurd (omega (arith, (held rules before i leg b lo hi old).below))
-          | inr new ↦ omega (arith, new, ((writes rules call (reached rules before) z).fresh b.place not_yet written.below).1)
+          | inr new ↦ omega (arith, new, ((writes rules call (run_state rules before) z).fresh b.place not_yet written.below).1)
         ]
     written_at before call (suc k) z not_yet written put = absurd (omega (arith, (held rules before i leg b lo hi put).below))
 
-    last_after_sending : on_leg leg (the i (reached rules calls).table) ≡ Some b → b.last ≤ tick_at (reached rules calls).log b.place + trip rules.meaning
+    last_after_sending : on_leg leg (the i (run_state rules calls).table) ≡ Some b → b.last ≤ tick_at (run_state rules calls).log b.place + trip rules.meaning
     last_after_sending e =
         let p = put_by rules calls i leg b lo hi e in
-        let now = reached rules p.before in
+        let now = run_state rules p.before in
         let then = perform rules p.call now in
         let near = written_at p.before p.call (number rules p.call now) refl p.not_yet p.written p.put in
         let kept = (grows rules p.after then).kept b.place p.written.below in
-        let same : reached rules calls ≡ played rules p.after then =
-        ap (λ cs. reached rules cs) p.among ∙ played_cut rules p.before p.call p.after (opened rules) in
-        omega (arith, near, ap (λ (h : Happening). h.tick) kept, ap (λ (t : Play). tick_at t.log b.place) same)
+        let same : run_state rules calls ≡ state_after rules p.after then =
+        ap (λ cs. run_state rules cs) p.among ∙ played_cut rules p.before p.call p.after (opening rules) in
+        omega (arith, near, ap (λ (h : Happening). h.tick) kept, ap (λ (t : State). tick_at t.log b.place) same)
 
   -- arrivals and losses
 
@@ -165,22 +166,22 @@ module _ (rules : Rules) (sound : Lawful rules.meaning) where
   InTime log = (k : ℕ) → k < length log → settles (happening_at log k).kind ≡ true → tick_at log k ≤ tick_at log (happening_at log k).link + trip rules.meaning
 
   -- an arrival or a loss links to an earlier place
-  linked_before : (calls : List Call) → let log = (reached rules calls).log in
+  linked_before : (calls : List Call) → let log = (run_state rules calls).log in
       (k : ℕ) → k < length log → settles (happening_at log k).kind ≡ true → (happening_at log k).link < k
   linked_before calls k below is =
-      let log = (reached rules calls).log in
+      let log = (run_state rules calls).log in
       let t = (logged_after rules calls).0 in
       go (is_arrival (happening_at log k).kind) (is_loss (happening_at log k).kind) (λ e. (t.linked k below e).earlier) (λ e. (t.losses k below e).earlier) is
     where
-      go : (x y : Bool) → (x ≡ true → (happening_at (reached rules calls).log k).link < k) → (y ≡ true → (happening_at (reached rules calls).log k).link < k) →
-          (x || y) ≡ true → (happening_at (reached rules calls).log k).link < k
+      go : (x y : Bool) → (x ≡ true → (happening_at (run_state rules calls).log k).link < k) → (y ≡ true → (happening_at (run_state rules calls).log k).link < k) →
+          (x || y) ≡ true → (happening_at (run_state rules calls).log k).link < k
       go true y f g e = f refl
       go false true f g e = g refl
       go false false f g e = absurd (grind arith)
 
   module _ (before : List Call) where
-    abbrev now : Play
-    now = reached rules before
+    abbrev now : State
+    now = run_state rules before
 
     abbrev Writes : List Happening → Type 0
     Writes = Grown (Wrote rules.plan.n now.table.clock (UnderWay rules.plan.n now.table)) now.log
@@ -209,9 +210,9 @@ module _ (rules : Rules) (sound : Lawful rules.meaning) where
         ap (tick_at log) (sym u.sent_there) ∙ ap (λ (x : Happening). x.tick) (g.kept b.place below) in
         omega (arith, w.1, last.0, near, same)
 
-    settles_in_time : (call : Call) (k : ℕ) → number rules call now ≡ k → InTime now.log → InTime (unless k now (done rules call now)).log
+    settles_in_time : (call : Call) (k : ℕ) → number rules call now ≡ k → InTime now.log → InTime (unless k now (effect rules call now)).log
     settles_in_time call zero z old k below is =
-        let log = (done rules call now).log in
+        let log = (effect rules call now).log in
         let g = writes rules call now z in
         elim (dec_lt k (length now.log)) [
           | yes early ↦ earlier log k g old early is
@@ -219,13 +220,13 @@ module _ (rules : Rules) (sound : Lawful rules.meaning) where
         ]
     settles_in_time call (suc j) z old k below is = old k below is
 
-  plays : (before later : List Call) → InTime (reached rules before).log → InTime (reached rules (before ++ later)).log
-  plays before [] a = subst (λ calls. InTime (reached rules calls).log) (sym (append-nil before)) a
+  plays : (before later : List Call) → InTime (run_state rules before).log → InTime (run_state rules (before ++ later)).log
+  plays before [] a = subst (λ calls. InTime (run_state rules calls).log) (sym (append-nil before)) a
   plays before (call ∷ later) a =
-      let s = reached rules before in
+      let s = run_state rules before in
       let next = settles_in_time before call (number rules call s) refl a in
-      subst (λ calls. InTime (reached rules calls).log) (append_assoc before (call ∷ []) later)
-      (plays (before ++ call ∷ []) later (subst (λ (t : Play). InTime t.log) (sym (played_snoc rules before call (opened rules))) next))
+      subst (λ calls. InTime (run_state rules calls).log) (append_assoc before (call ∷ []) later)
+      (plays (before ++ call ∷ []) later (subst (λ (t : State). InTime t.log) (sym (played_snoc rules before call (opening rules))) next))
 
 pub in_time : RunsBringBeatsInTime
 in_time rules sound calls = record {

@@ -9,8 +9,9 @@ use Rattle.protocol.specs.declared.call.Call.TheVariants.{Tick, Deliver, Lose, C
 use Rattle.protocol.specs.declared.call.Step.{Step}
 use Rattle.protocol.specs.Party.{on_leg}
 use Rattle.protocol.specs.Rules.{Rules}
-use Rattle.protocol.specs.Group.{Play, the, sender, opened}
-use Rattle.protocol.specs.Runs.{perform, reached}
+use Rattle.protocol.specs.State.{State, the, opening}
+use Rattle.protocol.specs.calls.Lose.{sender}
+use Rattle.protocol.specs.Runs.{perform, run_state}
 use Rattle.protocol.specs.Rehearsals.{Rehearsed, call_of}
 use Rattle.protocol.specs.Beats.{happening_at, SentBy, Edge, edge, edges, PutBy, BeatsAreLogged}
 
@@ -50,18 +51,18 @@ pub record IsEdgeOf (rules : Rules) (calls : List Call) (i leg : ℕ)
   pub of_a_party : (1 ≤ i) × (i ≤ rules.plan.n)
   pub of_a_leg : (1 ≤ leg) × (leg ≤ 3)
   -- its target is an arrival at the clock of that call, by who receives on the leg
-  pub arrival : ArrivedBy log (reached rules calls).table.clock (receiver leg i) e.target
+  pub arrival : ArrivedBy log (run_state rules calls).table.clock (receiver leg i) e.target
   -- which that very call wrote
-  pub not_yet : length (reached rules calls).log ≤ e.target
+  pub not_yet : length (run_state rules calls).log ≤ e.target
   pub written :
-      e.target < length (perform rules (Deliver i leg) (reached rules calls)).log
+      e.target < length (perform rules (Deliver i leg) (run_state rules calls)).log
   -- its source is a sending by who sends on the leg
   pub sending : SentBy log (sender leg i) e.source
   -- of the beat that stood on the leg, put there by the call that wrote that sending
   pub beat : Beat
-  pub stood : on_leg leg (the i (reached rules calls).table) ≡ Some beat
+  pub stood : on_leg leg (the i (run_state rules calls).table) ≡ Some beat
   pub sent_there : beat.place ≡ e.source
-  pub put : PutBy rules (opened rules) calls i leg beat
+  pub put : PutBy rules (opening rules) calls i leg beat
 
 -- the edges es are the granted deliveries of those steps, in their order
 pub record EdgesAreTheDeliveries (rules : Rules) (steps : List Step)
@@ -77,6 +78,6 @@ pub record EdgesAreTheDeliveries (rules : Rules) (steps : List Step)
 -- in every run the beats are logged, and the edges of the log are the granted deliveries
 abbrev pub RunsShowTheirBeats : Type 0
 RunsShowTheirBeats =
-    (rules : Rules) → Lawful rules.meaning → (steps : List Step) (s : Play) →
-    Rehearsed rules (opened rules) steps s →
+    (rules : Rules) → Lawful rules.meaning → (steps : List Step) (s : State) →
+    Rehearsed rules (opening rules) steps s →
     BeatsAreLogged rules s × EdgesAreTheDeliveries rules steps s.log (edges 0 s.log)

@@ -3,11 +3,12 @@ pub mod Texts
 pub mod Kinds
 pub mod Answers
 pub mod Plans
-pub mod Patience
 pub mod Rules
 pub mod Walk
 pub mod Party
-pub mod Group
+pub mod State
+pub mod Questions
+pub mod calls
 pub mod Runs
 pub mod Making
 pub mod Quiet

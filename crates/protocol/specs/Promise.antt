@@ -3,8 +3,8 @@ use Rattle.std.specs.Prelude.{◌≡◌, true, List, ◌∷◌, ◌++◌, map}
 use Rattle.protocol.specs.declared.call.Call.{Call}
 use Rattle.protocol.specs.declared.call.Step.{Step}
 use Rattle.protocol.specs.Rules.{Rules}
-use Rattle.protocol.specs.Group.{Play, opened}
-use Rattle.protocol.specs.Runs.{number, played, unharmed}
+use Rattle.protocol.specs.State.{State, opening}
+use Rattle.protocol.specs.Runs.{number, state_after, unharmed}
 use Rattle.protocol.specs.Laws.{RootFollows, PartiesFollow, StopsForCause, NobodyStopped}
 use Rattle.protocol.specs.Beats.{BeatsAreLogged, SendingsSettleOnce, FreeFor, edges}
 use Rattle.protocol.specs.Order.{LogInOrder}
@@ -22,12 +22,12 @@ AtEachCall calls P = (before after : List Call) (call : Call) → calls ≡ befo
 -- the legs on which the call puts a beat are free, where it is not refused
 abbrev pub SendsOnFreeLegs : Rules → List Call → Call → Type 0
 SendsOnFreeLegs rules before call =
-    let s = played rules before (opened rules) in number rules call s ≡ 0 → FreeFor rules call s
+    let s = state_after rules before (opening rules) in number rules call s ≡ 0 → FreeFor rules call s
 
 -- of a group opened new from a plan and a pace of that meaning, over so many slots, after the steps
-pub record KeepsTheRules (rules : Rules) (steps : List Step) (s : Play) : Type 0 where
+pub record KeepsTheRules (rules : Rules) (steps : List Step) (s : State) : Type 0 where
   -- each call did and answered what the rules say
-  pub by_the_rules : Rehearsed rules (opened rules) steps s
+  pub by_the_rules : Rehearsed rules (opening rules) steps s
   -- the clock tells how many ticks were granted
   pub clock_counts_the_granted_ticks : s.table.clock ≡ granted_ticks steps
   -- a party on the roll ended at tick c and the clock is past c + D: the root has ended

@@ -8,8 +8,8 @@ use Rattle.protocol.specs.declared.happening.Happening.{Happening}
 use Rattle.protocol.specs.declared.call.Call.{Call}
 use Rattle.protocol.specs.Party.{on_leg}
 use Rattle.protocol.specs.Rules.{Rules}
-use Rattle.protocol.specs.Group.{Play, the}
-use Rattle.protocol.specs.Runs.{reached}
+use Rattle.protocol.specs.State.{State, the}
+use Rattle.protocol.specs.Runs.{run_state}
 use Rattle.protocol.specs.Beats.{settles, happening_at}
 
 -- an arrival or a loss of the log links to place k
@@ -28,7 +28,7 @@ pub record UnderWay (n : ℕ) (t : Table) (k : ℕ) : Type 0 where
   pub stands : on_leg leg (the party t) ≡ Some beat
   pub sent_there : beat.place ≡ k
 
-abbrev pub NoBeatVanishes : Rules → Play → Type 0
+abbrev pub NoBeatVanishes : Rules → State → Type 0
 NoBeatVanishes rules s =
     (k : ℕ) → k < length s.log → (happening_at s.log k).kind ≡ Sent →
     SettledAt s.log k ⊎ UnderWay rules.plan.n s.table k
@@ -37,4 +37,4 @@ NoBeatVanishes rules s =
 abbrev pub RunsLetNoBeatVanish : Type 0
 RunsLetNoBeatVanish =
     (rules : Rules) → Lawful rules.meaning → (calls : List Call) →
-    NoBeatVanishes rules (reached rules calls)
+    NoBeatVanishes rules (run_state rules calls)

@@ -20,8 +20,8 @@ use Rattle.protocol.specs.declared.happening.HappeningKind.TheVariants.{Sent, Ar
 use Rattle.protocol.specs.declared.happening.Happening.{Happening}
 use Rattle.protocol.specs.declared.call.Call.{Call}
 use Rattle.protocol.specs.Rules.{Rules}
-use Rattle.protocol.specs.Group.{Play, the}
-use Rattle.protocol.specs.Runs.{reached}
+use Rattle.protocol.specs.State.{State, the}
+use Rattle.protocol.specs.Runs.{run_state}
 
 -- what the records owned by i make of x, one after another
 abbrev pub read : {A : Type 0} → (A → Happening → A) → ℕ → A → List Happening → A
@@ -96,7 +96,7 @@ root_told log = read (λ r h. root_as h.kind h.tick r) 0 Running log
 
 -- the log tells where each party stands, when it last heard and whether it is on the roll;
 -- and how the root is
-pub record TellsTheGroup (rules : Rules) (s : Play) : Type 0 where
+pub record TellsTheGroup (rules : Rules) (s : State) : Type 0 where
   pub party : (i : ℕ) → 1 ≤ i → i ≤ rules.plan.n → told_of rules.plan.kind i s.log ≡ account_of (the i s.table)
   pub root : root_told s.log ≡ s.table.root
 
@@ -104,4 +104,4 @@ pub record TellsTheGroup (rules : Rules) (s : Play) : Type 0 where
 abbrev pub RunsTellTheirGroup : Type 0
 RunsTellTheirGroup =
     (rules : Rules) → Lawful rules.meaning → (calls : List Call) →
-    TellsTheGroup rules (reached rules calls)
+    TellsTheGroup rules (run_state rules calls)

@@ -4,11 +4,10 @@ use Rattle.pace.specs.Meaning.{Lawful}
 use Rattle.protocol.specs.declared.party.Beat.{Beat}
 use Rattle.protocol.specs.declared.happening.Happening.{Happening}
 use Rattle.protocol.specs.declared.call.Call.{Call}
-use Rattle.protocol.specs.Patience.{trip}
+use Rattle.protocol.specs.Rules.{trip, Rules}
 use Rattle.protocol.specs.Party.{on_leg}
-use Rattle.protocol.specs.Rules.{Rules}
-use Rattle.protocol.specs.Group.{Play, the}
-use Rattle.protocol.specs.Runs.{reached}
+use Rattle.protocol.specs.State.{State, the}
+use Rattle.protocol.specs.Runs.{run_state}
 use Rattle.protocol.specs.Beats.{settles, happening_at}
 
 -- the tick of the record at place k
@@ -17,7 +16,7 @@ tick_at log k = (happening_at log k).tick
 
 -- a settled beat was under way for at most a trip; one on a leg may still arrive, by its last tick,
 -- which is at most a trip after its sending
-pub record BeatsComeInTime (rules : Rules) (s : Play) : Type 0 where
+pub record BeatsComeInTime (rules : Rules) (s : State) : Type 0 where
   pub settled :
       (k : ℕ) → k < length s.log → settles (happening_at s.log k).kind ≡ true →
       tick_at s.log k ≤ tick_at s.log (happening_at s.log k).link + trip rules.meaning
@@ -29,4 +28,4 @@ pub record BeatsComeInTime (rules : Rules) (s : Play) : Type 0 where
 abbrev pub RunsBringBeatsInTime : Type 0
 RunsBringBeatsInTime =
     (rules : Rules) → Lawful rules.meaning → (calls : List Call) →
-    BeatsComeInTime rules (reached rules calls)
+    BeatsComeInTime rules (run_state rules calls)

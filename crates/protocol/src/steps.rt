@@ -1,7 +1,10 @@
 // The steps of one party, each in place: the calls of a group are made of them.
 ghost use Rattle.std.specs.Prelude.{◌≡◌, ◌<◌};
-ghost use Rattle.protocol.specs.Party.{beat, live, on_roll, hears_as, answers, missed_to, crashes, sends, due, due_on, missed_all, times, on_leg, off_leg, arrives, joined};
-ghost use Rattle.protocol.specs.Group.{timer_word};
+ghost use Rattle.protocol.specs.Party.{beat, live, on_roll, on_leg, off_leg};
+ghost use Rattle.protocol.specs.calls.Deliver.{hears_as, answers, arrives};
+ghost use Rattle.protocol.specs.calls.Tick.{missed_to, sends, due, due_on, missed_all, times, timer_word};
+ghost use Rattle.protocol.specs.calls.Crash.{crashes};
+ghost use Rattle.protocol.specs.calls.Join.{joined};
 
 use crate::happening::HappeningKind;
 use crate::party::*;

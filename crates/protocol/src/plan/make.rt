@@ -1,7 +1,7 @@
 // Making and reading a plan.
 ghost use Rattle.std.specs.Prelude.{◌≡◌, IfSome, is_some};
 ghost use Rattle.protocol.specs.Plans.{Planned, bad_count_number};
-ghost use Rattle.protocol.specs.Runs.{is_party};
+ghost use Rattle.protocol.specs.Questions.{is_party};
 
 use crate::kind::GroupKind;
 use crate::member::Member;
