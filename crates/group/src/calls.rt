@@ -1,4 +1,4 @@
-// The calls of a group, a file each: what is asked first, and then what is done. A refusal changes nothing.
+// The calls of a group, a file each: what is asked, then what is done. A refusal changes nothing.
 ghost use Rattle.group.specs.Does.{Does};
 
 mod advance;

@@ -61,8 +61,8 @@ impl<P: Pace> Group<P> {
         is_own_log(&self.table, log)
     }
 
-    /// A party with the root's notes of it and what is on its legs, by its number from 1; none where
-    /// the plan has no such party.
+    /// A party with the root's notes on it and what is on its legs, by its number from 1. There is
+    /// none where the plan has no such party.
     pub fn party(&self, party: u8) -> Option<Party>
         ensures { result ≡ seen_party self.now.plan self.now.table party }
     {
@@ -70,7 +70,7 @@ impl<P: Pace> Group<P> {
         Some(self.table.parties[member.index()])
     }
 
-    /// The beat on a leg of a party, by their numbers; none where there is no such party, leg or beat.
+    /// The beat on a leg of a party, by their numbers; none also where party or leg is unknown.
     pub fn beat(&self, party: u8, leg: u8) -> Option<Beat>
         ensures { result ≡ seen_beat leg (seen_party self.now.plan self.now.table party) }
     {

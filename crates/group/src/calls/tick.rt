@@ -62,7 +62,7 @@ pub(crate) fn ask_tick(
     ask_quiet_tick(plan, table, log)
 }
 
-// Where nothing is due, the log alone may refuse a tick: the root and each party may write a record.
+// Where nothing is due, only the log may refuse: each party may get a beat and tell of its timer.
 fn ask_quiet_tick(plan: &Plan, table: &Table, log: &SlotList<'_, Happening>) -> Result<(), Refusal>
     ensures number { told result
         ≡ log_asks (2 * plan.now.n) (capacity log.now) (play table.now log.now) }

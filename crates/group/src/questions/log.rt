@@ -30,7 +30,8 @@ pub(crate) fn ask_log(
     Ok(())
 }
 
-// Has the log as many records as the group wrote, none later than the clock? The last record answers for all.
+// Has the log as many records as the group wrote, none later than the clock? Ticks never fall in
+// it, so the last record answers for all.
 pub(crate) fn is_own_log(table: &Table, log: &SlotList<'_, Happening>) -> bool
     ensures { result ≡ is_own_log (play table.now log.now) }
 {
