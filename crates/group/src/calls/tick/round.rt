@@ -63,7 +63,7 @@ fn has_any_missed_all(plan: &Plan, table: &Table, rounds: u32) -> bool
         .any(|party| party.has_missed_all(rounds))
 }
 
-// The shortest wait, at their misses, among the parties on the roll, or tmax with none.
+// Each expected party has a wait, by its misses: the least of them, and tmax where there is none.
 fn next_length<P: Pace>(pace: &P, plan: &Plan, table: &Table) -> u32
     ensures { result ≡ fold (λ best p. shorter (P.means pace.now).waits 0 best p)
         (P.means pace.now).tmax (take plan.now.n table.now.parties) }
