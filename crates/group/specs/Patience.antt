@@ -16,4 +16,5 @@ pub record DoesFor (m : Meaning) (plan : Plan) (t : Table) (d : ℕ) : Type 0 wh
   pub some : 0 < d
   pub most : d ≤ patience m plan.kind
   pub alike : (k : ℕ) → k < plan.n →
-      silent_for d t.clock (slice_index_or t.parties k nobody) ≡ silent_for (patience m plan.kind) t.clock (slice_index_or t.parties k nobody)
+      silent_for d t.clock (slice_index_or t.parties k nobody)
+      ≡ silent_for (patience m plan.kind) t.clock (slice_index_or t.parties k nobody)

@@ -30,7 +30,8 @@ pub(crate) fn ask_log(
     Ok(())
 }
 
-// Has the log as many records as the group wrote, none later than the clock? The last record answers for all.
+// Is the count of records right, and the last of them of no later tick than the clock? Ticks never
+// fall in a log, so no other record can be later.
 pub(crate) fn is_own_log(table: &Table, log: &SlotList<'_, Happening>) -> bool
     ensures { result ≡ is_own_log (play table.now log.now) }
 {
