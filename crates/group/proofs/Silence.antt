@@ -10,9 +10,9 @@ use Rattle.protocol.specs.declared.party.Standing.{Standing}
 use Rattle.protocol.specs.declared.party.Standing.TheVariants.{Outside, Live, Ended}
 use Rattle.protocol.specs.declared.plan.Plan.{Plan}
 use Rattle.protocol.specs.declared.table.Table.{Table}
-use Rattle.protocol.specs.Patience.{patience}
+use Rattle.protocol.specs.Rules.{patience}
 use Rattle.protocol.specs.Party.{nobody}
-use Rattle.protocol.specs.Group.{round_ends}
+use Rattle.protocol.specs.calls.Tick.{round_ends}
 use Rattle.protocol.specs.Quiet.{clocked, timer_rests, Rests, Quiet}
 use Rattle.protocol.proofs.Members.{any_take}
 use Rattle.protocol.proofs.Lifts.{none_of_any}

@@ -4,7 +4,7 @@ use Rattle.pace.specs.Meaning.{Meaning}
 use Rattle.protocol.specs.declared.party.Party.{Party}
 use Rattle.protocol.specs.declared.plan.Plan.{Plan}
 use Rattle.protocol.specs.declared.table.Table.{Table}
-use Rattle.protocol.specs.Patience.{patience}
+use Rattle.protocol.specs.Rules.{patience}
 use Rattle.protocol.specs.Party.{live, nobody}
 
 -- a live party has heard nothing for so many ticks

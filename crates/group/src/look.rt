@@ -1,10 +1,10 @@
 // What whoever looks on may know of a group.
 ghost use Rattle.std.specs.Prelude.{◌≡◌};
 ghost use Rattle.protocol.specs.Order.{TellsOwnLog};
-ghost use Rattle.protocol.specs.Runs.{is_own_log};
-ghost use Rattle.protocol.specs.Views.{play};
+ghost use Rattle.protocol.specs.Questions.{is_own_log};
+ghost use Rattle.protocol.specs.Views.{state_of};
 ghost use Rattle.group.specs.Views.{seen_party, seen_beat};
-ghost use Rattle.protocol.specs.Patience.{patience};
+ghost use Rattle.protocol.specs.Rules.{patience};
 
 use crate::dues::patience_of;
 use crate::group::Group;
@@ -55,8 +55,8 @@ impl<P: Pace> Group<P> {
     /// Is this the log that the group wrote? Told by the number of its records and their ticks.
     #[tactic(auto, using(protocol::proofs::Own::tells_own))]
     pub fn wrote(&self, log: &SlotList<'_, Happening>) -> bool
-        ensures answer { result ≡ is_own_log (play self.now.table log.now) }
-        ensures own { TellsOwnLog result (play self.now.table log.now) }
+        ensures answer { result ≡ is_own_log (state_of self.now.table log.now) }
+        ensures own { TellsOwnLog result (state_of self.now.table log.now) }
     {
         is_own_log(&self.table, log)
     }

@@ -3,6 +3,7 @@ use Rattle.std.specs.Prelude.{ℕ, ◌+◌, ◌-◌, Bool, true, false, List, []
 use Rattle.protocol.specs.declared.party.Party.{Party}
 use Rattle.protocol.specs.declared.table.Root.{Root}
 use Rattle.protocol.specs.declared.table.Root.TheVariants.{Running, Down}
+use Rattle.protocol.specs.declared.kind.GroupKind.{GroupKind}
 use Rattle.protocol.specs.declared.happening.HappeningKind.{HappeningKind}
 use Rattle.protocol.specs.declared.happening.Happening.{Happening}
 use Rattle.protocol.specs.declared.table.Table.{Table}
@@ -42,19 +43,20 @@ with_root r log t =
 abbrev pub with_party : ℕ → Party → List Happening → Table → State
 with_party i p log t = with_parties (slice_set t.parties (i - 1) p) log t
 
+-- the table of a new group, whose first round has length tmax
+abbrev pub new_table : ℕ → GroupKind → Table
+new_table tmax kind = record {
+  clock = 0;
+  root = Running;
+  start = 0;
+  length = tmax;
+  logged = 0;
+  parties = replicate 32 (fresh kind);
+}
+
 -- a new group with an empty log
 abbrev pub opening : Rules → State
-opening rules = record {
-  table = record {
-    clock = 0;
-    root = Running;
-    start = 0;
-    length = rules.meaning.tmax;
-    logged = 0;
-    parties = replicate 32 (fresh rules.plan.kind);
-  };
-  log = [];
-}
+opening rules = record { table = new_table rules.meaning.tmax rules.plan.kind; log = [] }
 
 abbrev pub runs : Root → Bool
 runs Running = true

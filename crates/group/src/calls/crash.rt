@@ -1,10 +1,10 @@
 // Crash: the root or a party crashes.
 ghost use Rattle.std.specs.Prelude.{◌≡◌, true, [], IfOk, OnOk};
 ghost use Rattle.slots.specs.Slots.{capacity, Extends};
-ghost use Rattle.protocol.specs.Answers.{told};
-ghost use Rattle.protocol.specs.Group.{crashed};
-ghost use Rattle.protocol.specs.Runs.{can_crash, number};
-ghost use Rattle.protocol.specs.Views.{play, Ready};
+ghost use Rattle.protocol.specs.Answers.{number_told};
+ghost use Rattle.protocol.specs.calls.Crash.{after_crash, can_crash, crash_number};
+ghost use Rattle.protocol.specs.Runs.{number};
+ghost use Rattle.protocol.specs.Views.{state_of, Ready};
 ghost use Rattle.protocol.specs.declared.call.Call.TheVariants.{Crash};
 ghost use Rattle.group.specs.Does.{Does};
 ghost use Rattle.group.specs.Named.{number_of};
@@ -40,8 +40,8 @@ fn ask_crash(
     log: &SlotList<'_, Happening>,
     party: u8,
 ) -> Result<Option<Member>, Refusal>
-    ensures number { told result
-        ≡ number plan.now (capacity log.now) (Crash party) (play table.now log.now) }
+    ensures number { number_told result
+        ≡ crash_number plan.now (capacity log.now) party (state_of table.now log.now) }
     ensures ready { OnOk result (Ready log.now table.now.clock 2) }
     ensures member { IfOk result (λ member. number_of member ≡ party) }
 {
@@ -63,7 +63,7 @@ fn do_crash(table: &mut Table, log: &mut SlotList<'_, Happening>, member: Option
     requires ready { Ready log.old table.old.clock 2 }
     requires able { can_crash (number_of member) (record { table = table.old; log = [] }) ≡ true }
     ensures extends { Extends log.old log.new }
-    ensures after { play table.new log.new ≡ crashed (number_of member) (play table.old log.old) }
+    ensures after { state_of table.new log.new ≡ after_crash (number_of member) (state_of table.old log.old) }
 {
     let clock = table.clock;
     let owner = match member {

@@ -1,8 +1,8 @@
 // Deliver: the beat on a leg of a party arrives, at the party or at the root.
 ghost use Rattle.std.specs.Prelude.{◌≡◌, Some};
 ghost use Rattle.slots.specs.Slots.{items, Extends};
-ghost use Rattle.protocol.specs.Group.{arrival_log, delivered_as};
-ghost use Rattle.protocol.specs.Views.{play, Ready};
+ghost use Rattle.protocol.specs.calls.Deliver.{arrival_log, after_arrival};
+ghost use Rattle.protocol.specs.Views.{state_of, Ready};
 ghost use Rattle.protocol.specs.declared.call.Call.TheVariants.{Deliver};
 ghost use Rattle.group.specs.Does.{Does};
 ghost use Rattle.group.specs.Follows.{followed};
@@ -46,8 +46,8 @@ fn do_deliver(
 )
     requires { Ready log.old table.old.clock 2 }
     ensures extends { Extends log.old log.new }
-    ensures after { play table.new log.new
-        ≡ delivered_as (Some beat) member.number leg (play table.old log.old) }
+    ensures after { state_of table.new log.new
+        ≡ after_arrival (Some beat) member.number leg (state_of table.old log.old) }
 {
     let clock = table.clock;
     let root = table.root;

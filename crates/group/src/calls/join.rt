@@ -1,10 +1,9 @@
 // Join: an outside party asks to be taken on the roll.
 ghost use Rattle.std.specs.Prelude.{◌≡◌, ◌≤◌, IfOk, OnOk};
 ghost use Rattle.slots.specs.Slots.{capacity, Extends};
-ghost use Rattle.protocol.specs.Answers.{told};
-ghost use Rattle.protocol.specs.Group.{joins_as};
-ghost use Rattle.protocol.specs.Runs.{number};
-ghost use Rattle.protocol.specs.Views.{play, Ready};
+ghost use Rattle.protocol.specs.Answers.{number_told};
+ghost use Rattle.protocol.specs.calls.Join.{after_join, join_number};
+ghost use Rattle.protocol.specs.Views.{state_of, Ready};
 ghost use Rattle.protocol.specs.declared.call.Call.TheVariants.{Join};
 ghost use Rattle.group.specs.Does.{Does};
 
@@ -42,8 +41,8 @@ fn ask_join(
     log: &SlotList<'_, Happening>,
     party: u8,
 ) -> Result<Member, Refusal>
-    ensures number { told result
-        ≡ number plan.now (capacity log.now) (Join party) (play table.now log.now) }
+    ensures number { number_told result
+        ≡ join_number plan.now (capacity log.now) party (state_of table.now log.now) }
     ensures ready { OnOk result (Ready log.now table.now.clock 2) }
     ensures member { IfOk result (λ member. member.number ≡ party) }
 {
@@ -64,7 +63,7 @@ fn do_join(table: &mut Table, log: &mut SlotList<'_, Happening>, member: Member,
     requires early { table.old.clock ≤ 4000000000 }
     requires brief { trip ≤ 1000000 }
     ensures extends { Extends log.old log.new }
-    ensures after { play table.new log.new ≡ joins_as trip member.number (play table.old log.old) }
+    ensures after { state_of table.new log.new ≡ after_join trip member.number (state_of table.old log.old) }
 {
     let clock = table.clock;
     let sending_place = log.len() + 1;

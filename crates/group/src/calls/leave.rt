@@ -1,10 +1,9 @@
 // Leave: a party that is in begins to leave.
 ghost use Rattle.std.specs.Prelude.{◌≡◌, IfOk, OnOk};
 ghost use Rattle.slots.specs.Slots.{capacity, Extends};
-ghost use Rattle.protocol.specs.Answers.{told};
-ghost use Rattle.protocol.specs.Group.{leaves};
-ghost use Rattle.protocol.specs.Runs.{number};
-ghost use Rattle.protocol.specs.Views.{play, Ready};
+ghost use Rattle.protocol.specs.Answers.{number_told};
+ghost use Rattle.protocol.specs.calls.Leave.{after_leave, leave_number};
+ghost use Rattle.protocol.specs.Views.{state_of, Ready};
 ghost use Rattle.protocol.specs.declared.call.Call.TheVariants.{Leave};
 ghost use Rattle.group.specs.Does.{Does};
 
@@ -41,8 +40,8 @@ fn ask_leave(
     log: &SlotList<'_, Happening>,
     party: u8,
 ) -> Result<Member, Refusal>
-    ensures number { told result
-        ≡ number plan.now (capacity log.now) (Leave party) (play table.now log.now) }
+    ensures number { number_told result
+        ≡ leave_number plan.now (capacity log.now) party (state_of table.now log.now) }
     ensures ready { OnOk result (Ready log.now table.now.clock 2) }
     ensures member { IfOk result (λ member. member.number ≡ party) }
 {
@@ -60,7 +59,7 @@ fn ask_leave(
 fn do_leave(table: &mut Table, log: &mut SlotList<'_, Happening>, member: Member)
     requires { Ready log.old table.old.clock 2 }
     ensures extends { Extends log.old log.new }
-    ensures after { play table.new log.new ≡ leaves member.number (play table.old log.old) }
+    ensures after { state_of table.new log.new ≡ after_leave member.number (state_of table.old log.old) }
 {
     table.parties[member.index()].own.standing = Standing::Live(Stage::Leaving);
     tell(log, table.clock, member.number, HappeningKind::Leaving);

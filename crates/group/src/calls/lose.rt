@@ -1,8 +1,8 @@
 // Lose: the beat on a leg of a party is lost.
 ghost use Rattle.std.specs.Prelude.{◌≡◌, Some};
 ghost use Rattle.slots.specs.Slots.{Extends};
-ghost use Rattle.protocol.specs.Group.{lost_as};
-ghost use Rattle.protocol.specs.Views.{play, Ready};
+ghost use Rattle.protocol.specs.calls.Lose.{after_loss_of};
+ghost use Rattle.protocol.specs.Views.{state_of, Ready};
 ghost use Rattle.protocol.specs.declared.call.Call.TheVariants.{Lose};
 ghost use Rattle.group.specs.Does.{Does};
 
@@ -45,8 +45,8 @@ fn do_lose(
 )
     requires { Ready log.old table.old.clock 2 }
     ensures extends { Extends log.old log.new }
-    ensures after { play table.new log.new
-        ≡ lost_as (Some beat) member.number leg (play table.old log.old) }
+    ensures after { state_of table.new log.new
+        ≡ after_loss_of (Some beat) member.number leg (state_of table.old log.old) }
 {
     let owner = if leg == 1 { 0 } else { member.number };
     table.parties[member.index()].take_off(leg);

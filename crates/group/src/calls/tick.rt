@@ -2,13 +2,12 @@
 ghost use Rattle.std.specs.Prelude.{◌≡◌, ◌*◌, ◌<◌, OnOk, take};
 ghost use Rattle.std.specs.List.{list_any};
 ghost use Rattle.slots.specs.Slots.{capacity, Extends};
-ghost use Rattle.protocol.specs.Answers.{told};
-ghost use Rattle.protocol.specs.Group.{ticked};
-ghost use Rattle.protocol.specs.Party.{due};
-ghost use Rattle.protocol.specs.Runs.{number, log_asks};
-ghost use Rattle.protocol.specs.Views.{play, Ready};
+ghost use Rattle.protocol.specs.Answers.{number_told};
+ghost use Rattle.protocol.specs.calls.Tick.{after_tick, due, tick_number};
+ghost use Rattle.protocol.specs.Questions.{log_asks};
+ghost use Rattle.protocol.specs.Views.{state_of, Ready};
 ghost use Rattle.protocol.specs.declared.call.Call.TheVariants.{Tick};
-ghost use Rattle.group.specs.Does.{Does};
+ghost use Rattle.group.specs.Does.{rules_by, Does};
 ghost use Rattle.group.specs.Sane.{Sane};
 
 mod passes;
@@ -49,8 +48,8 @@ pub(crate) fn ask_tick(
     table: &Table,
     log: &SlotList<'_, Happening>,
 ) -> Result<(), Refusal>
-    ensures number { told result
-        ≡ number plan.now (capacity log.now) Tick (play table.now log.now) }
+    ensures number { number_told result
+        ≡ tick_number plan.now (capacity log.now) (state_of table.now log.now) }
     ensures ready { OnOk result (Ready log.now table.now.clock (2 * plan.now.n)) }
 {
     if table.clock >= 4_000_000_000 {
@@ -64,8 +63,8 @@ pub(crate) fn ask_tick(
 
 // Where nothing is due, only the log may refuse: each party may get a beat and tell of its timer.
 fn ask_quiet_tick(plan: &Plan, table: &Table, log: &SlotList<'_, Happening>) -> Result<(), Refusal>
-    ensures number { told result
-        ≡ log_asks (2 * plan.now.n) (capacity log.now) (play table.now log.now) }
+    ensures number { number_told result
+        ≡ log_asks (2 * plan.now.n) (capacity log.now) (state_of table.now log.now) }
     ensures ready { OnOk result (Ready log.now table.now.clock (2 * plan.now.n)) }
 {
     ask_log(table, log, 2 * plan.parties() as usize)
@@ -91,8 +90,9 @@ pub(crate) fn do_tick<P: Pace>(
     requires sane { Sane table.old }
     requires ready { Ready log.old table.old.clock (2 * plan.now.n) }
     ensures extends { Extends log.old log.new }
-    ensures after { play table.new log.new
-        ≡ ticked (P.means pace.now) plan.now (play table.old log.old) }
+    ensures after { state_of table.new log.new
+        ≡ after_tick (rules_by (P.means pace.now) plan.now log.old)
+        (state_of table.old log.old) }
 {
     end_round(pace, plan, table, log);
     let timer = Timer::at(pace, plan, table);

@@ -1,6 +1,6 @@
 // The next tick at which something is due: each tick before it only counts the clock.
 ghost use Rattle.std.specs.Prelude.{◌≡◌, ℕ, ◌<◌, ◌≤◌, false};
-ghost use Rattle.protocol.specs.Group.{round_ends};
+ghost use Rattle.protocol.specs.calls.Tick.{round_ends};
 ghost use Rattle.protocol.specs.Quiet.{clocked, QuietUntil};
 
 use crate::dues::timer::Timer;

@@ -1,7 +1,7 @@
 // How long a party waits for the root.
 ghost use Rattle.std.specs.Prelude.{◌≡◌, take};
 ghost use Rattle.std.specs.List.{list_any};
-ghost use Rattle.protocol.specs.Patience.{patience};
+ghost use Rattle.protocol.specs.Rules.{patience};
 ghost use Rattle.group.specs.Patience.{silent_for, DoesFor};
 
 use pace::Pace;

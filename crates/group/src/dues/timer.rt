@@ -1,6 +1,7 @@
 // What is due first of a party, a beat on one of its legs or its timer, by what timers go by.
 ghost use Rattle.std.specs.Prelude.{◌≡◌, ℕ, ◌-◌, ◌<◌, ◌≤◌, true, false, length, slice_index_or};
-ghost use Rattle.protocol.specs.Party.{due_on, calls_in, nobody};
+ghost use Rattle.protocol.specs.calls.Tick.{due_on, calls_in};
+ghost use Rattle.protocol.specs.Party.{nobody};
 ghost use Rattle.protocol.specs.Quiet.{timer_rests, Rests};
 ghost use Rattle.protocol.specs.declared.party.Stage.TheVariants.{Joining};
 ghost use Rattle.group.specs.Patience.{DoesFor};

@@ -1,12 +1,11 @@
 // The questions on a beat that is to arrive or to be lost.
 ghost use Rattle.std.specs.Prelude.{◌≡◌, IfOk, OnOk, Some};
 ghost use Rattle.slots.specs.Slots.{capacity};
-ghost use Rattle.protocol.specs.Answers.{told};
+ghost use Rattle.protocol.specs.Answers.{number_told};
 ghost use Rattle.protocol.specs.Party.{on_leg};
-ghost use Rattle.protocol.specs.Group.{the};
-ghost use Rattle.protocol.specs.Runs.{number};
-ghost use Rattle.protocol.specs.Views.{play, Ready};
-ghost use Rattle.protocol.specs.declared.call.Call.TheVariants.{Deliver};
+ghost use Rattle.protocol.specs.State.{the};
+ghost use Rattle.protocol.specs.calls.Deliver.{beat_number};
+ghost use Rattle.protocol.specs.Views.{state_of, Ready};
 
 use crate::questions::log::ask_log;
 use protocol::happening::Happening;
@@ -25,8 +24,8 @@ pub(crate) fn ask_beat(
     party: u8,
     leg: u8,
 ) -> Result<(Member, Beat), Refusal>
-    ensures number { told result
-        ≡ number plan.now (capacity log.now) (Deliver party leg) (play table.now log.now) }
+    ensures number { number_told result
+        ≡ beat_number plan.now (capacity log.now) party leg (state_of table.now log.now) }
     ensures ready { OnOk result (Ready log.now table.now.clock 2) }
     ensures member { IfOk result (λ found. found.0.number ≡ party) }
     ensures beat { IfOk result (λ found. on_leg leg (the party table.now) ≡ Some found.1) }

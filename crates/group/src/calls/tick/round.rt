@@ -1,9 +1,9 @@
 // The end of a round: the root stops, or starts the next one.
 ghost use Rattle.std.specs.Prelude.{◌≡◌, ◌≤◌, take};
 ghost use Rattle.std.specs.List.{list_any, fold};
-ghost use Rattle.protocol.specs.Party.{missed_all};
-ghost use Rattle.protocol.specs.Group.{shorter, settled, rounded};
+ghost use Rattle.protocol.specs.calls.Tick.{missed_all, shorter, after_verdict, after_round};
 ghost use Rattle.protocol.specs.Views.{Ready};
+ghost use Rattle.group.specs.Does.{rules_by};
 ghost use Rattle.group.specs.Sane.{Sane};
 ghost use Rattle.group.specs.Views.{Acted};
 
@@ -25,7 +25,7 @@ pub(crate) fn end_round<P: Pace>(
 )
     requires sane { Sane table.old }
     requires ready { Ready log.old table.old.clock plan.now.n }
-    ensures { Acted plan.now.n (rounded (P.means pace.now) plan.now.n)
+    ensures { Acted plan.now.n (after_round (rules_by (P.means pace.now) plan.now log.old))
         table.old table.new log.old log.new }
 {
     if table.root == Root::Running && table.clock == table.start + table.length {
@@ -39,7 +39,7 @@ pub(crate) fn end_round<P: Pace>(
 fn settle<P: Pace>(pace: &P, plan: &Plan, table: &mut Table, log: &mut SlotList<'_, Happening>)
     requires early { table.old.clock ≤ 4000000000 }
     requires ready { Ready log.old table.old.clock plan.now.n }
-    ensures { Acted plan.now.n (settled (P.means pace.now) plan.now.n)
+    ensures { Acted plan.now.n (after_verdict (rules_by (P.means pace.now) plan.now log.old))
         table.old table.new log.old log.new }
 {
     let clock = table.clock;
