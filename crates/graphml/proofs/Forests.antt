@@ -8,21 +8,21 @@ use Rattle.markup.proofs.Kept.{kept_stop, kept_first, count_on, count_begun}
 use Rattle.markup.proofs.Filling.{with_none, first_whole as held_first_whole, framed as held_framed, room_left}
 use Rattle.graphml.specs.Elements.{spelling, Tag, opening, closing}
 use Rattle.graphml.specs.Counts.{is_happening, is_edge}
-use Rattle.graphml.specs.State.{State, wrote, opened, after, drawn}
+use Rattle.graphml.specs.Writer.{Writer, wrote, opened, after, drawn}
 
 -- two states with equal parts
-pub same_state : {s t : State} → s.out ≡ t.out → s.happenings ≡ t.happenings → s.edges ≡ t.edges → s ≡ t
+pub same_state : {s t : Writer} → s.out ≡ t.out → s.happenings ≡ t.happenings → s.edges ≡ t.edges → s ≡ t
 same_state o h e = λ i. record { out = o i; happenings = h i; edges = e i }
 
-drawn_none : (s : State) → drawn s none ≡ s
+drawn_none : (s : Writer) → drawn s none ≡ s
 drawn_none s = same_state (with_none spelling s.out) (add-zero _) (add-zero _)
 
-pub stops : (s : State) (t : Tag) (i a : Forest Tag) → has_room s.out (opening t) (length (closing t)) ≡ false →
+pub stops : (s : Writer) (t : Tag) (i a : Forest Tag) → has_room s.out (opening t) (length (closing t)) ≡ false →
     drawn s (element t i a) ≡ s
 stops s t i a p = ap (after s) (kept_stop spelling s.out.room t i a p) ∙ drawn_none s
 
 -- what comes after an element
-module _ (s : State) (t : Tag) (i a : Forest Tag) (sound : s.out.at + s.out.room ≤ length s.out.bytes) where
+module _ (s : Writer) (t : Tag) (i a : Forest Tag) (sound : s.out.at + s.out.room ≤ length s.out.bytes) where
   abbrev first : Forest Tag
   first = element t i none
 
@@ -42,7 +42,7 @@ module _ (s : State) (t : Tag) (i a : Forest Tag) (sound : s.out.at + s.out.room
   first_cut p = (ap (after s) (kept_first spelling s.out.room t i a p), let h = leb-false _ _ p in lt-leb _ _ (omega arith))
 
 -- an element that is not counted, and is begun, ends as its inside does, closed
-pub framed : (s : State) (t : Tag) (i : Forest Tag) → s.out.at + s.out.room ≤ length s.out.bytes → is_happening t ≡ 0 → is_edge t ≡ 0 →
+pub framed : (s : Writer) (t : Tag) (i : Forest Tag) → s.out.at + s.out.room ≤ length s.out.bytes → is_happening t ≡ 0 → is_edge t ≡ 0 →
     has_room s.out (opening t) (length (closing t)) ≡ true →
     drawn s (element t i none) ≡ wrote (drawn (opened s (opening t) (length (closing t))) i) (closing t)
 framed s t i sound p q f =

@@ -18,7 +18,7 @@ use Rattle.graphml.specs.Reading.{Item, items_read, happening_of, place_of, plac
 use Rattle.protocol.specs.Order.{OwnedUpTo}
 use Rattle.graphml.specs.Log.{items_of, times, HasBothEnds, all_read, ShowsTheLog}
 use Rattle.graphml.specs.Answer.{in_frame, part, over, written, summary, exported}
-use Rattle.graphml.specs.State.{State, wrote, drawn}
+use Rattle.graphml.specs.Writer.{Writer, wrote, drawn}
 use Rattle.graphml.proofs.Shapes.{in_run, kept_shaped, body_shaped}
 use Rattle.graphml.proofs.Growing.{Framed}
 use Rattle.graphml.proofs.Told.{things, frame_told, all_counted, edges_counted, first_taken}
@@ -34,7 +34,7 @@ unfolding head
 length_head = refl
 
 -- the writer before the first byte
-abbrev pub empty : ℕ → List ℕ → State
+abbrev pub empty : ℕ → List ℕ → Writer
 empty lent out = record { out = record { lent = lent; bytes = out; at = 0; room = length out - 275 }; happenings = 0; edges = 0 }
 
 module _ (out : List ℕ) (log : List Happening) (n : ℕ) (h : 275 ≤ length out) where
@@ -44,14 +44,14 @@ module _ (out : List ℕ) (log : List Happening) (n : ℕ) (h : 275 ≤ length o
   abbrev text : List ℕ
   text = in_frame fit
 
-  pub record Finished (lent : ℕ) (s : State) : Type 0 where
+  pub record Finished (lent : ℕ) (s : Writer) : Type 0 where
     pub bytes : s.out.bytes ≡ over text out
     pub at : s.out.at ≡ length text
     pub happenings : s.happenings ≡ count is_happening fit
     pub edges : s.edges ≡ count is_edge fit
     pub same : s.out.lent ≡ lent
 
-  pub finished : {lent : ℕ} {s t u : State} → s ≡ wrote (empty lent out) head → t ≡ drawn s (body log n) → u ≡ wrote t tail → Finished lent u
+  pub finished : {lent : ℕ} {s t u : Writer} → s ≡ wrote (empty lent out) head → t ≡ drawn s (body log n) → u ≡ wrote t tail → Finished lent u
   finished {lent} {s} {t} {u} p q r =
       let lh = length_head in
       let lp = length_render spelling fit in
@@ -73,7 +73,7 @@ module _ (out : List ℕ) (log : List Happening) (n : ℕ) (h : 275 ≤ length o
   abbrev done : Result Exported Refusal
   done = Ok (summary fit (all_fits spelling (length out - 275) (body log n)))
 
-  pub answered : {lent : ℕ} {s u : State} {r : Bool} → s ≡ wrote (empty lent out) head → r ≡ all_fits spelling s.out.room (body log n) → Finished lent u → ◌≡◌ {A = Result Exported Refusal} (Ok (record { bytes = u.out.at; happenings = u.happenings; edges = u.edges; whole = r })) (exported log n (length out))
+  pub answered : {lent : ℕ} {s u : Writer} {r : Bool} → s ≡ wrote (empty lent out) head → r ≡ all_fits spelling s.out.room (body log n) → Finished lent u → ◌≡◌ {A = Result Exported Refusal} (Ok (record { bytes = u.out.at; happenings = u.happenings; edges = u.edges; whole = r })) (exported log n (length out))
   answered p w f =
       let all = w ∙ ap (λ x. all_fits spelling x.out.room (body log n)) p in
       ◌∙◌ {b = done} (λ i. Ok (record { bytes = f.at i; happenings = f.happenings i; edges = f.edges i; whole = all i }))
@@ -138,7 +138,7 @@ module _ (out : List ℕ) (log : List Happening) (n : ℕ) (h : 275 ≤ length o
       edges_have_both_ends = λ w within linked. subst (All (HasBothEnds text)) (sym (all_edges w)) (ends_found text log (once_each w within) n linked);
     }
 
-    pub shown : {out' : List ℕ} {lent : ℕ} {u : State} {r : Bool} → out' ≡ over text out → Finished lent u → r ≡ whole →
+    pub shown : {out' : List ℕ} {lent : ℕ} {u : Writer} {r : Bool} → out' ≡ over text out → Finished lent u → r ≡ whole →
         ShowsTheLog n log (record { bytes = u.out.at; happenings = u.happenings; edges = u.edges; whole = r }) (take u.out.at out')
     shown {out'} {lent} {u} {r} e f w =
         subst₂ (ShowsTheLog n log) (sym (λ i. record { bytes = f.at i; happenings = f.happenings i; edges = f.edges i; whole = w i })) (sym (front e f.at)) shown_text

@@ -8,29 +8,29 @@ use Rattle.graphml.specs.declared.output.Counts.{Counts}
 use Rattle.graphml.specs.Elements.{Tag, spelling}
 use Rattle.graphml.specs.Counts.{is_happening, is_edge}
 
-pub record State : Type 0 where
+pub record Writer : Type 0 where
   pub out : Held
   pub happenings : ℕ
   pub edges : ℕ
 
-abbrev pub state : Output Counts → State
-state o = record { out = held o; happenings = o.counts.happenings; edges = o.counts.edges }
+abbrev pub writer : Output Counts → Writer
+writer o = record { out = held o; happenings = o.counts.happenings; edges = o.counts.edges }
 
 -- so many bytes are set aside for closings; each counted line has at least a byte
-pub record Sound (o : State) (closings : ℕ) : Type 0 where
+pub record Sound (o : Writer) (closings : ℕ) : Type 0 where
   pub fits : o.out.at + o.out.room + closings ≤ length o.out.bytes
   pub few : o.happenings + o.edges ≤ o.out.at
 
 -- after a text for which there was place
-abbrev pub wrote : State → List ℕ → State
+abbrev pub wrote : Writer → List ℕ → Writer
 wrote s t = record s { out = with_text s.out t }
 
 -- after an opening, with its closing set aside
-abbrev pub opened : State → List ℕ → ℕ → State
+abbrev pub opened : Writer → List ℕ → ℕ → Writer
 opened s o closing = record s { out = with_opening s.out o closing }
 
 -- after a forest for which there is room
-abbrev pub after : State → Forest Tag → State
+abbrev pub after : Writer → Forest Tag → Writer
 after s f = record {
   out = with_forest spelling s.out f;
   happenings = s.happenings + count is_happening f;
@@ -38,5 +38,5 @@ after s f = record {
 }
 
 -- after what fits of a forest
-abbrev pub drawn : State → Forest Tag → State
+abbrev pub drawn : Writer → Forest Tag → Writer
 drawn s f = after s (kept spelling s.out.room f)
