@@ -10,6 +10,7 @@ pub mod Group
 pub mod Runs
 pub mod Making
 pub mod Quiet
+pub mod Idle
 pub mod Laws
 pub mod Beats
 pub mod Order
