@@ -13,9 +13,9 @@ import sys
 TOP = pathlib.Path(__file__).resolve().parent.parent
 sys.path.insert(0, str(TOP / "tests"))
 
-import compare  # noqa: E402
 import model  # noqa: E402
 import schedules  # noqa: E402
+from timing import RUNFILE, cost  # noqa: E402
 
 LAST = 3_999_999_999
 MOST_ORDERS = (model.INPUT_BYTES - model.START_BYTES) // model.ORDER_BYTES
@@ -33,9 +33,10 @@ def main(words):
     for parties in (1, 32):
         for tick, orders in ((100_000_000, 1), (LAST, 1), (LAST, MOST_ORDERS)):
             data = waits(parties, tick, orders)
-            seconds, printed = compare.cost(compare.RUNFILE, data, rounds)
+            seconds, printed = cost(RUNFILE, data, rounds)
             same = "" if printed == model.runfile(data) else "  OUTPUTS DIFFER"
-            print(f"{seconds * 1e3:9.3f} ms, goal {GOAL}: {parties} parties, {orders} waits until {tick:,}{same}", flush=True)
+            group = "1 party" if parties == 1 else f"{parties} parties"
+            print(f"{seconds * 1e3:9.3f} ms, goal {GOAL}: {group}, {orders} waits until {tick:,}{same}", flush=True)
 
 
 if __name__ == "__main__":

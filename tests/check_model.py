@@ -298,11 +298,27 @@ def test_passing_over_idle_rounds_changes_nothing():
     assert passes > 300, passes
 
 
-def test_no_clock_is_too_far():
+class Counting(model.Group):
+    """A group that counts the turns in which it lets time pass: a tick, or as many as it passes over at once."""
+
+    turns = 0
+
+    def next_stir(self):
+        self.turns += 1
+        return super().next_stir()
+
+
+def test_turns_go_by_orders_and_records_and_not_by_the_clock():
     rng = random.Random(7)
-    numbers = [model.play(model.open_group(start), orders) for start, orders in
-               (model.read(schedules.draw_idler(rng).data) for _ in range(300))]
-    assert sum(number is not None and number[1] == 10 for number in numbers) > 20, numbers
+    at_end = 0
+    for draw in [schedules.draw_idler] * 300 + [schedules.draw_run] * 100:
+        start, orders = model.read(draw(rng).data)
+        group = model.open_group(start)
+        group.__class__ = Counting
+        model.play(group, orders)
+        assert group.turns <= 5 * (len(orders) + len(group.log) + 1)
+        at_end += group.clock == model.LAST_CLOCK
+    assert at_end > 20, at_end
 
 
 def test_text_and_bytes_say_the_same():
