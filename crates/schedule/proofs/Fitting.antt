@@ -10,7 +10,7 @@ use Rattle.orders.specs.declared.order.Order.{Order}
 use Rattle.orders.specs.declared.start.Start.{Start}
 use Rattle.orders.specs.Loading.{tick_of, StartFits, OrderFits, InOrder}
 use Rattle.schedule.specs.declared.complaint.Cause.{Cause}
-use Rattle.schedule.specs.Cuts.{line_words, behind}
+use Rattle.schedule.specs.Cuts.{line_words}
 use Rattle.schedule.specs.Words.{number, group_word, pace_word, order_word, only}
 use Rattle.schedule.specs.Records.{due, due_if, behind_if, over, and_then, has_party, has_leg, start_behind, order_behind, start_in, order_in}
 use Rattle.schedule.specs.Texts.{Reading, ended, appended, order_met, orders_from, start_met, lines_from}
@@ -25,17 +25,17 @@ passed (Err c) more y e = absurd (let z : ◌≡◌ {A = ℕ} 0 1 = cc in omega 
 start_behind_fits : (kind : GroupKind) (w0 : List (List ℕ)) (s : Start) → start_behind kind w0 ≡ Ok s → StartFits s
 unfolding start_behind
 start_behind_fits kind w0 s e =
-    let w1 = behind w0 in
-    let w2 = behind w1 in
-    let w3 = behind w2 in
-    let w5 = behind (behind w3) in
+    let w1 = drop 1 w0 in
+    let w2 = drop 1 w1 in
+    let w3 = drop 1 w2 in
+    let w5 = drop 1 (drop 1 w3) in
     let p0 = passed (due (number 255) w0) _ s e in
     let p1 = passed (due pace_word w1) _ s p0.2 in
     let p2 = passed (due (number 4294967295) w2) _ s p1.2 in
     let p3 = passed (due (number 4294967295) w3) _ s p2.2 in
-    let p4 = passed (due (only (codes "cap")) (behind w3)) _ s p3.2 in
+    let p4 = passed (due (only (codes "cap")) (drop 1 w3)) _ s p3.2 in
     let p5 = passed (due (number 255) w5) _ s p4.2 in
-    let p6 = passed (over (behind w5)) _ s p5.2 in
+    let p6 = passed (over (drop 1 w5)) _ s p5.2 in
     let a = due_le 255 w0 p0.0 p0.1 in
     let b = due_le 4294967295 w2 p2.0 p2.1 in
     let c = due_le 4294967295 w3 p3.0 p3.1 in
@@ -62,7 +62,7 @@ unfolding order_behind
 order_behind_fits tick w0 o le e =
     let p0 = passed (due order_word w0) _ o e in
     let k = p0.0 in
-    let w1 = behind w0 in
+    let w1 = drop 1 w0 in
     let w2 = behind_if (has_party k) w1 in
     let p1 = passed (due_if (has_party k) w1) _ o p0.2 in
     let p2 = passed (due_if (has_leg k) w2) _ o p1.2 in

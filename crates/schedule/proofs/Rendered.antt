@@ -22,11 +22,13 @@ use Rattle.orders.specs.declared.start.PaceKind.TheVariants.{Halving, TwoPhase}
 use Rattle.orders.specs.declared.start.Start.{Start}
 use Rattle.orders.specs.Loading.{tick_of, StartFits, OrderFits, InOrder}
 use Rattle.schedule.specs.declared.complaint.Cause.TheVariants.{NotANumber, NumberTooLarge}
-use Rattle.schedule.specs.Cuts.{begins_comment, ends_line, is_blank, until, past, lines_in, words_in, line_words}
+use Rattle.std.specs.List.{before_first, after_first, join_with_byte}
+use Rattle.schedule.specs.Cuts.{begins_comment, ends_line, is_blank, lines_in, words_in, line_words}
 use Rattle.schedule.specs.Words.{named, number, group_word, pace_word, order_word, only}
 use Rattle.schedule.specs.Records.{due, due_if, behind_if, over, has_party, has_leg, start_behind, order_behind, start_in, order_in}
-use Rattle.schedule.specs.Rendering.{group_name, pace_name, order_name, start_words, named_if, order_words, spaced, text_line, rendered, Named, RenderedTextsRead}
+use Rattle.schedule.specs.Rendering.{group_name, pace_name, order_name, start_words, named_if, order_words, text_line, rendered, Named, RenderedTextsRead}
 use Rattle.schedule.specs.Texts.{ended, appended, order_met, orders_from, start_met, lines_from}
+use Rattle.schedule.proofs.Pieces.{before_cons, after_cons}
 use Rattle.schedule.proofs.Taking.{one_word, no_word, one_line, no_line}
 
 -- no byte is a mark
@@ -35,14 +37,20 @@ Without m [] = Unit {0}
 Without m (b ∷ bs) = (m b ≡ false) × Without m bs
 
 module _ (m : ℕ → Bool) where
-  until_whole : (bs : List ℕ) → Without m bs → (until m bs ≡ bs) × (past m bs ≡ [])
-  until_whole [] h = (refl, refl)
-  until_whole (b ∷ bs) h = let q = until_whole bs h.1 in let e = h.0 in let a = q.0 in let z = q.1 in (simp (e, a), simp (e, z))
+  before_whole : (bs : List ℕ) → Without m bs → (before_first m bs ≡ bs) × (after_first m bs ≡ [])
+  before_whole [] h = (refl, refl)
+  before_whole (b ∷ bs) h =
+      let q = before_whole bs h.1 in
+      (before_cons m b bs ∙ (λ j. cond (h.0 j) [] (b ∷ q.0 j)), after_cons m b bs ∙ (λ j. cond (h.0 j) bs (q.1 j)))
 
   -- a mark behind them is the first
-  until_mark : (bs : List ℕ) (c : ℕ) (more : List ℕ) → Without m bs → m c ≡ true → (until m (bs ++ (c ∷ more)) ≡ bs) × (past m (bs ++ (c ∷ more)) ≡ more)
-  until_mark [] c more h t = (simp t, simp t)
-  until_mark (b ∷ bs) c more h t = let q = until_mark bs c more h.1 t in let e = h.0 in let a = q.0 in let z = q.1 in (simp (e, a), simp (e, z))
+  before_mark : (bs : List ℕ) (c : ℕ) (more : List ℕ) → Without m bs → m c ≡ true → (before_first m (bs ++ (c ∷ more)) ≡ bs) × (after_first m (bs ++ (c ∷ more)) ≡ more)
+  before_mark [] c more h t =
+      (before_cons m c more ∙ (λ j. cond (t j) [] (c ∷ before_first m more)), after_cons m c more ∙ (λ j. cond (t j) more (after_first m more)))
+  before_mark (b ∷ bs) c more h t =
+      let q = before_mark bs c more h.1 t in
+      let all = bs ++ (c ∷ more) in
+      (before_cons m b all ∙ (λ j. cond (h.0 j) [] (b ∷ q.0 j)), after_cons m b all ∙ (λ j. cond (h.0 j) all (q.1 j)))
 
   without_append : (bs cs : List ℕ) → Without m bs → Without m cs → Without m (bs ++ cs)
   without_append [] cs h k = k
@@ -72,37 +80,37 @@ no_comment b h = grind (arith, nat_tests)
 no_blank : (b : ℕ) → 0x23 < b → is_blank b ≡ false
 no_blank b h = grind (arith, nat_tests)
 
-spaced_without : (m : ℕ → Bool) → ((b : ℕ) → 0x23 < b → m b ≡ false) → m 0x20 ≡ false → (ws : List (List ℕ)) → Words ws → Without m (spaced ws)
+spaced_without : (m : ℕ → Bool) → ((b : ℕ) → 0x23 < b → m b ≡ false) → m 0x20 ≡ false → (ws : List (List ℕ)) → Words ws → Without m (join_with_byte 0x20 ws)
 spaced_without m a s [] h = tt
 spaced_without m a s (w ∷ []) h = clear_without m a w h.1
-spaced_without m a s (w ∷ v ∷ ws) h = without_append m w (0x20 ∷ spaced (v ∷ ws)) (clear_without m a w h.1) (s, spaced_without m a s (v ∷ ws) h.2)
+spaced_without m a s (w ∷ v ∷ ws) h = without_append m w (0x20 ∷ join_with_byte 0x20 (v ∷ ws)) (clear_without m a w h.1) (s, spaced_without m a s (v ∷ ws) h.2)
 
 -- spaced words are cut apart again
-words_again : (ws : List (List ℕ)) → Words ws → words_in (spaced ws) ≡ ws
+words_again : (ws : List (List ℕ)) → Words ws → words_in (join_with_byte 0x20 ws) ≡ ws
 words_again [] h = no_word [] refl
 words_again (w ∷ []) h =
-    let u = until_whole is_blank w (clear_without is_blank no_blank w h.1) in
-    let some : 0 < length (until is_blank w) = rw u.0 h.0 in
-    one_word w h.0 some ∙ ap (λ z. z ∷ words_in (past is_blank w)) u.0 ∙ ap (λ z. w ∷ words_in z) u.1 ∙ ap (λ z. w ∷ z) (no_word [] refl)
+    let u = before_whole is_blank w (clear_without is_blank no_blank w h.1) in
+    let some : 0 < length (before_first is_blank w) = rw u.0 h.0 in
+    one_word w h.0 some ∙ ap (λ z. z ∷ words_in (after_first is_blank w)) u.0 ∙ ap (λ z. w ∷ words_in z) u.1 ∙ ap (λ z. w ∷ z) (no_word [] refl)
 words_again (w ∷ v ∷ ws) h =
-    let rest = spaced (v ∷ ws) in
+    let rest = join_with_byte 0x20 (v ∷ ws) in
     let all = w ++ (0x20 ∷ rest) in
-    let u = until_mark is_blank w 0x20 rest (clear_without is_blank no_blank w h.1) refl in
-    let some : 0 < length (until is_blank all) = rw u.0 h.0 in
+    let u = before_mark is_blank w 0x20 rest (clear_without is_blank no_blank w h.1) refl in
+    let some : 0 < length (before_first is_blank all) = rw u.0 h.0 in
     let long : 0 < length all = simp length-append (omega arith) in
-    one_word all long some ∙ ap (λ z. z ∷ words_in (past is_blank all)) u.0 ∙ ap (λ z. w ∷ words_in z) u.1 ∙ ap (λ z. w ∷ z) (words_again (v ∷ ws) h.2)
+    one_word all long some ∙ ap (λ z. z ∷ words_in (after_first is_blank all)) u.0 ∙ ap (λ z. w ∷ words_in z) u.1 ∙ ap (λ z. w ∷ z) (words_again (v ∷ ws) h.2)
 
-line_again : (ws : List (List ℕ)) → Words ws → line_words (spaced ws) ≡ ws
-line_again ws h = ap words_in (until_whole begins_comment (spaced ws) (spaced_without begins_comment no_comment refl ws h)).0 ∙ words_again ws h
+line_again : (ws : List (List ℕ)) → Words ws → line_words (join_with_byte 0x20 ws) ≡ ws
+line_again ws h = ap words_in (before_whole begins_comment (join_with_byte 0x20 ws) (spaced_without begins_comment no_comment refl ws h)).0 ∙ words_again ws h
 
 -- a line is cut off
-lines_again : (ws : List (List ℕ)) (more : List ℕ) → Words ws → lines_in (text_line ws ++ more) ≡ spaced ws ∷ lines_in more
+lines_again : (ws : List (List ℕ)) (more : List ℕ) → Words ws → lines_in (text_line ws ++ more) ≡ join_with_byte 0x20 ws ∷ lines_in more
 lines_again ws more h =
-    let all = spaced ws ++ (0x0A ∷ more) in
-    let u = until_mark ends_line (spaced ws) 0x0A more (spaced_without ends_line no_line_end refl ws h) refl in
+    let all = join_with_byte 0x20 ws ++ (0x0A ∷ more) in
+    let u = before_mark ends_line (join_with_byte 0x20 ws) 0x0A more (spaced_without ends_line no_line_end refl ws h) refl in
     let long : 0 < length all = simp length-append (omega arith) in
-    ap lines_in (append_assoc (spaced ws) (0x0A ∷ []) more) ∙ one_line all long
-    ∙ ap (λ z. z ∷ lines_in (past ends_line all)) u.0 ∙ ap (λ z. spaced ws ∷ lines_in z) u.1
+    ap lines_in (append_assoc (join_with_byte 0x20 ws) (0x0A ∷ []) more) ∙ one_line all long
+    ∙ ap (λ z. z ∷ lines_in (after_first ends_line all)) u.0 ∙ ap (λ z. join_with_byte 0x20 ws ∷ lines_in z) u.1
 
 -- numbers
 own : IsNumeralModel (λ ds. all_ascii_digits ds ≡ true) (read_on 0)
@@ -227,20 +235,20 @@ module _ (o : Order) (f : OrderFits o) where
       simp (t, k, a0, a1, b0, b1)
 
 abbrev order_lines : List Order → List (List ℕ)
-order_lines os = map (λ o. spaced (order_words o)) os
+order_lines os = map (λ o. join_with_byte 0x20 (order_words o)) os
 
 -- the orders' lines
 lines_of : (t : ℕ) (os : List Order) → InOrder t os → lines_in (flat_map (λ o. text_line (order_words o)) os) ≡ order_lines os
 lines_of t [] h = no_line [] refl
 lines_of t (o ∷ os) h =
-    lines_again (order_words o) (flat_map (λ o. text_line (order_words o)) os) (order_clear o h.0) ∙ ap (λ z. spaced (order_words o) ∷ z) (lines_of o.tick os h.2)
+    lines_again (order_words o) (flat_map (λ o. text_line (order_words o)) os) (order_clear o h.0) ∙ ap (λ z. join_with_byte 0x20 (order_words o) ∷ z) (lines_of o.tick os h.2)
 
 orders_again : (os : List Order) (s : Start) (n : ℕ) (xs ys : List Order) → InOrder (last_time tick_of xs) os → Named os → length os ≤ length ys →
     orders_from s n (order_lines os) xs ys ≡ ended (Ok s) (n + length os) (xs ++ os) (drop (length os) ys)
 unfolding orders_from
 orders_again [] s n xs ys t z room = rw (add-zero, append-nil)
 orders_again (o ∷ os) s n xs ys t z room =
-    let e : order_in (line_words (spaced (order_words o))) ≡ Ok (Some o) = ap order_in (line_again (order_words o) (order_clear o t.0)) ∙ order_again o t.0 z.0 z.1 in
+    let e : order_in (line_words (join_with_byte 0x20 (order_words o))) ≡ Ok (Some o) = ap order_in (line_again (order_words o) (order_clear o t.0)) ∙ order_again o t.0 z.0 z.1 in
     let k = says_ok tick_of xs ys o (omega arith) t.1 in
     let more = orders_from s (n + 1) (order_lines os) in
     let last : n + 1 + length os ≡ n + length (o ∷ os) = omega arith in
@@ -255,9 +263,9 @@ unfolding lines_from
 rendered_texts s os slots f t z room =
     let ws = start_words s in
     let ok = start_clear s f in
-    let cut : lines_in (rendered s os) ≡ spaced ws ∷ order_lines os =
-    lines_again ws (flat_map (λ o. text_line (order_words o)) os) ok ∙ ap (λ ls. spaced ws ∷ ls) (lines_of 0 os t) in
-    let e : start_in (line_words (spaced ws)) ≡ Ok (Some s) = ap start_in (line_again ws ok) ∙ start_again s f in
+    let cut : lines_in (rendered s os) ≡ join_with_byte 0x20 ws ∷ order_lines os =
+    lines_again ws (flat_map (λ o. text_line (order_words o)) os) ok ∙ ap (λ ls. join_with_byte 0x20 ws ∷ ls) (lines_of 0 os t) in
+    let e : start_in (line_words (join_with_byte 0x20 ws)) ≡ Ok (Some s) = ap start_in (line_again ws ok) ∙ start_again s f in
     let ls = order_lines os in
     ap (λ ls. lines_from 0 ls [] slots) cut
     ∙ ap (λ r. start_met 1 (lines_from 1 ls [] slots) (λ s. orders_from s 1 ls [] slots) [] slots r) e

@@ -1,5 +1,5 @@
 -- What the words of a line read as: a start or an order, or the first word that is wrong.
-use Rattle.std.specs.Prelude.{ℕ, Bool, true, false, List, [], ◌∷◌, Some, None, Ok, Err, codes, Option, Result}
+use Rattle.std.specs.Prelude.{ℕ, Bool, true, false, List, [], ◌∷◌, drop, Some, None, Ok, Err, codes, Option, Result}
 use Rattle.protocol.specs.declared.kind.GroupKind.{GroupKind}
 use Rattle.orders.specs.declared.order.Order.{Order}
 use Rattle.orders.specs.declared.order.OrderKind.{OrderKind}
@@ -7,7 +7,6 @@ use Rattle.orders.specs.declared.order.OrderKind.TheVariants.{Deliver, Lose, Cra
 use Rattle.orders.specs.declared.start.Start.{Start}
 use Rattle.schedule.specs.declared.complaint.Cause.{Cause}
 use Rattle.schedule.specs.declared.complaint.Cause.TheVariants.{MissingWord, WordTooMany}
-use Rattle.schedule.specs.Cuts.{behind}
 use Rattle.schedule.specs.Words.{number, group_word, pace_word, order_word, only}
 
 module _ {X : Type 0} where
@@ -22,7 +21,7 @@ due_if true ws = due (number 255) ws
 due_if false ws = Ok 0
 
 abbrev pub behind_if : Bool → List (List ℕ) → List (List ℕ)
-behind_if true ws = behind ws
+behind_if true ws = drop 1 ws
 behind_if false ws = ws
 
 -- no word is left
@@ -39,12 +38,12 @@ module _ {X Y : Type 0} where
 -- the words behind the group kind
 unfoldable pub start_behind : GroupKind → List (List ℕ) → Result Start Cause
 start_behind kind ws0 =
-    and_then (due (number 255) ws0) (λ parties. let ws1 = behind ws0 in
-    and_then (due pace_word ws1) (λ pace. let ws2 = behind ws1 in
-    and_then (due (number 4294967295) ws2) (λ tmin. let ws3 = behind ws2 in
-    and_then (due (number 4294967295) ws3) (λ tmax. let ws4 = behind ws3 in
-    and_then (due (only (codes "cap")) ws4) (λ u. let ws5 = behind ws4 in
-    and_then (due (number 255) ws5) (λ m. let ws6 = behind ws5 in
+    and_then (due (number 255) ws0) (λ parties. let ws1 = drop 1 ws0 in
+    and_then (due pace_word ws1) (λ pace. let ws2 = drop 1 ws1 in
+    and_then (due (number 4294967295) ws2) (λ tmin. let ws3 = drop 1 ws2 in
+    and_then (due (number 4294967295) ws3) (λ tmax. let ws4 = drop 1 ws3 in
+    and_then (due (only (codes "cap")) ws4) (λ u. let ws5 = drop 1 ws4 in
+    and_then (due (number 255) ws5) (λ m. let ws6 = drop 1 ws5 in
     and_then (over ws6) (λ v.
     Ok record { kind = kind; parties = parties; tmin = tmin; tmax = tmax; pace = pace; cap = m })))))))
 
@@ -68,7 +67,7 @@ has_leg Wait = false
 -- the words behind the tick
 unfoldable pub order_behind : ℕ → List (List ℕ) → Result Order Cause
 order_behind tick ws0 =
-    and_then (due order_word ws0) (λ kind. let ws1 = behind ws0 in
+    and_then (due order_word ws0) (λ kind. let ws1 = drop 1 ws0 in
     and_then (due_if (has_party kind) ws1) (λ party. let ws2 = behind_if (has_party kind) ws1 in
     and_then (due_if (has_leg kind) ws2) (λ leg. let ws3 = behind_if (has_leg kind) ws2 in
     and_then (over ws3) (λ u.

@@ -1,6 +1,6 @@
 -- A start and orders as a text, and that such a text reads as just those.
 use Rattle.std.specs.Prelude.{◌≡◌, ℕ, ◌+◌, ◌≤◌, Bool, true, false, List, [], ◌∷◌, ◌++◌, length, drop, Ok, codes, decimal}
-use Rattle.std.specs.List.{flat_map}
+use Rattle.std.specs.List.{flat_map, join_with_byte}
 use Rattle.protocol.specs.declared.kind.GroupKind.{GroupKind}
 use Rattle.protocol.specs.declared.kind.GroupKind.TheVariants.{Closed, Expanding, Dynamic}
 use Rattle.orders.specs.declared.order.Order.{Order}
@@ -44,14 +44,9 @@ abbrev pub order_words : Order → List (List ℕ)
 order_words o =
     decimal o.tick ∷ order_name o.kind ∷ named_if (has_party o.kind) o.party (named_if (has_leg o.kind) o.leg [])
 
--- words with a space between them
-abbrev pub spaced : List (List ℕ) → List ℕ
-spaced [] = []
-spaced (w ∷ []) = w
-spaced (w ∷ v ∷ ws) = w ++ (0x20 ∷ spaced (v ∷ ws))
-
+-- words with a space between them, and a line's end
 abbrev pub text_line : List (List ℕ) → List ℕ
-text_line ws = spaced ws ++ (0x0A ∷ [])
+text_line ws = join_with_byte 0x20 ws ++ (0x0A ∷ [])
 
 -- a line for the start, and one for each order
 abbrev pub rendered : Start → List Order → List ℕ

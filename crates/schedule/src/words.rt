@@ -1,7 +1,7 @@
 // The words of one line, taken one by one. Each method says what it leaves of them, which no fact about one value can.
-ghost use Rattle.std.specs.Prelude.{◌≡◌, [], ◌∷◌, MatchResult, codes};
+ghost use Rattle.std.specs.Prelude.{◌≡◌, [], ◌∷◌, MatchResult, codes, drop};
 ghost use Rattle.std.specs.Iterator.{YieldsFirstRef, item_count};
-ghost use Rattle.schedule.specs.Cuts.{words_in, line_words, behind};
+ghost use Rattle.schedule.specs.Cuts.{words_in, line_words};
 ghost use Rattle.schedule.specs.Words.{number, pace_word, order_word, only};
 ghost use Rattle.schedule.specs.Records.{due, due_if, behind_if, over};
 
@@ -37,7 +37,7 @@ impl<'a> Words<'a> {
     #[tactic(auto, unfolding(crate::specs::Records::due))]
     pub(crate) fn number(&mut self, max: u32) -> Result<u32, Cause>
         ensures answer { result ≡ due (number max) (words_in self.old.rest.now) }
-        ensures left { words_in self.new.rest.now ≡ behind (words_in self.old.rest.now) }
+        ensures left { words_in self.new.rest.now ≡ drop 1 (words_in self.old.rest.now) }
     {
         number(self.word()?, max)
     }
@@ -45,7 +45,7 @@ impl<'a> Words<'a> {
     // The next word as a number of one byte.
     pub(crate) fn byte(&mut self) -> Result<u8, Cause>
         ensures answer { result ≡ due (number 255) (words_in self.old.rest.now) }
-        ensures left { words_in self.new.rest.now ≡ behind (words_in self.old.rest.now) }
+        ensures left { words_in self.new.rest.now ≡ drop 1 (words_in self.old.rest.now) }
     {
         Ok(self.number(255)? as u8)
     }
@@ -63,7 +63,7 @@ impl<'a> Words<'a> {
     #[tactic(auto, unfolding(crate::specs::Records::due))]
     pub(crate) fn pace(&mut self) -> Result<PaceKind, Cause>
         ensures answer { result ≡ due pace_word (words_in self.old.rest.now) }
-        ensures left { words_in self.new.rest.now ≡ behind (words_in self.old.rest.now) }
+        ensures left { words_in self.new.rest.now ≡ drop 1 (words_in self.old.rest.now) }
     {
         pace_kind(self.word()?)
     }
@@ -72,7 +72,7 @@ impl<'a> Words<'a> {
     #[tactic(auto, unfolding(crate::specs::Records::due))]
     pub(crate) fn order_kind(&mut self) -> Result<OrderKind, Cause>
         ensures answer { result ≡ due order_word (words_in self.old.rest.now) }
-        ensures left { words_in self.new.rest.now ≡ behind (words_in self.old.rest.now) }
+        ensures left { words_in self.new.rest.now ≡ drop 1 (words_in self.old.rest.now) }
     {
         order_kind(self.word()?)
     }
@@ -81,7 +81,7 @@ impl<'a> Words<'a> {
     #[tactic(auto, unfolding(crate::specs::Records::due))]
     pub(crate) fn cap(&mut self) -> Result<(), Cause>
         ensures answer { result ≡ due (only (codes "cap")) (words_in self.old.rest.now) }
-        ensures left { words_in self.new.rest.now ≡ behind (words_in self.old.rest.now) }
+        ensures left { words_in self.new.rest.now ≡ drop 1 (words_in self.old.rest.now) }
     {
         cap_word(self.word()?)
     }
