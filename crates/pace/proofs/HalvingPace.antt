@@ -7,7 +7,7 @@ use Rattle.std.specs.List.{slice_get}
 use Rattle.std.proofs.lemmas.Bool.{le-leb, lt-leb, cases_lt}
 use Rattle.std.proofs.lemmas.Option.{slice_get-get_or}
 use Rattle.pace.specs.declared.limits.Limits.{Limits}
-use Rattle.pace.specs.Falling.{falling}
+use Rattle.pace.specs.Falling.{falling_waits}
 use Rattle.pace.specs.Halving.{halving, Largest, LengthsApart}
 
 -- the wait at place m is the last that is at least tmin
@@ -44,7 +44,7 @@ shape_more ws w m s = record { long = ap suc s.long; at = at }
     at zero h = sym (div-one w)
     at (suc k) h = s.at k (omega arith) ∙ half_first w k
 
-shape : (most tmin w m : ℕ) → m < most → Last tmin w m → Shape (falling (λ x. x / 2) true most tmin w) w m
+shape : (most tmin w m : ℕ) → m < most → Last tmin w m → Shape (falling_waits (λ x. x / 2) true most tmin w) w m
 shape zero tmin w m b last = absurd (omega arith)
 shape (suc most) tmin w zero b last = rw (lt-leb tmin (w / 2) last.beyond) (shape_one w)
 shape (suc most) tmin w (suc m) b last =
@@ -52,7 +52,7 @@ shape (suc most) tmin w (suc m) b last =
     let h' : w / 2 / 2 ^ suc m ≡ w / 2 ^ suc (suc m) = half_first w (suc m) in
     let t : nat_le tmin (w / 2) ≡ true = le-leb tmin (w / 2) (omega (arith, last.reached, shr_le (w / 2) m)) in
     let ih = shape most tmin (w / 2) m (omega arith) (record { reached = omega (arith, last.reached); beyond = omega (arith, last.beyond) }) in
-    rw t (shape_more (falling (λ x. x / 2) true most tmin (w / 2)) w m ih)
+    rw t (shape_more (falling_waits (λ x. x / 2) true most tmin (w / 2)) w m ih)
 
 -- ---- the last place, by the limits' lengths in bits
 

@@ -1,11 +1,11 @@
 -- The pace by halving, and what is said of the number of its waits.
 use Rattle.std.specs.Prelude.{◌≡◌, ℕ, ◌+◌, ◌-◌, ◌*◌, ◌/◌, ◌^◌, ◌≤◌, true, ◌⊎◌, List}
 use Rattle.std.specs.Int.Count.{count_leading_zeros}
-use Rattle.pace.specs.Falling.{falling}
+use Rattle.pace.specs.Falling.{falling_waits}
 
 -- tmax, then half the wait before it, fraction dropped, while that is at least tmin
 unfoldable pub halving : ℕ → ℕ → List ℕ
-halving tmin tmax = falling (λ w. w / 2) true 64 tmin tmax
+halving tmin tmax = falling_waits (λ w. w / 2) true 64 tmin tmax
 
 -- k is the largest number with tmin * 2 ^ k at most tmax
 abbrev pub Largest : ℕ → ℕ → ℕ → Type 0

@@ -3,7 +3,7 @@ use Rattle.std.proofs.Common.{◌≡◌, ℕ, suc, ◌+◌, ◌<◌, ◌≤◌, 
 use Rattle.std.proofs.lemmas.List.{drop_all, take_all}
 use Rattle.std.proofs.lemmas.Bool.Decides.{nat_tests}
 use Rattle.std.specs.List.{position_or_len, before_first, after_first}
-use Rattle.schedule.specs.Cuts.{onto, pieces}
+use Rattle.schedule.specs.Cuts.{with_first_byte, pieces}
 
 module _ (m : ℕ → Bool) where
   -- byte by byte
@@ -41,11 +41,11 @@ module _ (m : ℕ → Bool) where
 
   -- the first piece ends at the first mark
   first : (b : ℕ) (bs : List ℕ) → pieces m (b ∷ bs) ≡ before_first m (b ∷ bs) ∷ pieces m (after_first m (b ∷ bs))
-  first b [] = rw (before_cons b [], after_cons b []) elim (m b) as (λ t. cond t ([] ∷ []) (onto b []) ≡ cond t [] (b ∷ []) ∷ pieces m (cond t [] [])) [ true ↦ refl | false ↦ refl ]
+  first b [] = rw (before_cons b [], after_cons b []) elim (m b) as (λ t. cond t ([] ∷ []) (with_first_byte b []) ≡ cond t [] (b ∷ []) ∷ pieces m (cond t [] [])) [ true ↦ refl | false ↦ refl ]
   first b (b' ∷ bs) =
       let cs = b' ∷ bs in
-      rw (before_cons b cs, after_cons b cs) elim (m b) as (λ t. cond t ([] ∷ pieces m cs) (onto b (pieces m cs)) ≡ cond t [] (b ∷ before_first m cs) ∷ pieces m (cond t cs (after_first m cs)))
-      [ true ↦ refl | false ↦ ap (onto b) (first b' bs) ]
+      rw (before_cons b cs, after_cons b cs) elim (m b) as (λ t. cond t ([] ∷ pieces m cs) (with_first_byte b (pieces m cs)) ≡ cond t [] (b ∷ before_first m cs) ∷ pieces m (cond t cs (after_first m cs)))
+      [ true ↦ refl | false ↦ ap (with_first_byte b) (first b' bs) ]
 
   pub first_piece : (bs : List ℕ) → 0 < length bs → pieces m bs ≡ before_first m bs ∷ pieces m (after_first m bs)
   first_piece [] h = absurd (omega arith)

@@ -24,10 +24,10 @@ use Rattle.orders.specs.Loading.{tick_of, StartFits, OrderFits, InOrder}
 use Rattle.schedule.specs.declared.complaint.Cause.TheVariants.{NotANumber, NumberTooLarge}
 use Rattle.std.specs.List.{before_first, after_first, join_with_byte}
 use Rattle.schedule.specs.Cuts.{begins_comment, ends_line, is_blank, lines_in, words_in, line_words}
-use Rattle.schedule.specs.Words.{named, number, group_word, pace_word, order_word, only}
-use Rattle.schedule.specs.Records.{due, due_if, behind_if, over, has_party, has_leg, start_behind, order_behind, start_in, order_in}
-use Rattle.schedule.specs.Rendering.{group_name, pace_name, order_name, start_words, named_if, order_words, text_line, rendered, Named, RenderedTextsRead}
-use Rattle.schedule.specs.Texts.{ended, appended, order_met, orders_from, start_met, lines_from}
+use Rattle.schedule.specs.Words.{is_name, number_word, group_word, pace_word, order_word, only}
+use Rattle.schedule.specs.Records.{next_word, byte_if, words_after_if, no_words, has_party, has_leg, start_behind, order_behind, start_in, order_in}
+use Rattle.schedule.specs.Rendering.{group_name, pace_name, order_name, start_words, number_if, order_words, text_line, text_of, Named, RenderedTextsRead}
+use Rattle.schedule.specs.Texts.{reading_end, append_reading, order_reading, orders_from, start_reading, lines_from}
 use Rattle.schedule.proofs.Pieces.{before_cons, after_cons}
 use Rattle.schedule.proofs.Taking.{one_word, no_word, one_line, no_line}
 
@@ -116,8 +116,8 @@ lines_again ws more h =
 own : IsNumeralModel (λ ds. all_ascii_digits ds ≡ true) (read_on 0)
 own = numerals_by_fold _ (search rules) read_on (search rules)
 
-number_again : (max n : ℕ) → n ≤ max → n < 2 ^ 64 → number max (decimal n) ≡ Ok n
-unfolding number
+number_again : (max n : ℕ) → n ≤ max → n < 2 ^ 64 → number_word max (decimal n) ≡ Ok n
+unfolding number_word
 number_again max n le h =
     let d = digits_decimal own n h in
     let v = digits_value-decimal own n h in
@@ -139,18 +139,18 @@ decimal_clear n h = digits_clear (decimal n) (digits_decimal own n h)
 
 -- names
 group_again : (k : GroupKind) → (0 < length (group_name k)) × (clear (group_name k) ≡ true) × (group_word (group_name k) ≡ Ok k)
-unfolding group_word named
+unfolding group_word is_name
 group_again Closed = (omega arith, refl, refl)
 group_again Expanding = (omega arith, refl, refl)
 group_again Dynamic = (omega arith, refl, refl)
 
 pace_again : (k : PaceKind) → (0 < length (pace_name k)) × (clear (pace_name k) ≡ true) × (pace_word (pace_name k) ≡ Ok k)
-unfolding pace_word named
+unfolding pace_word is_name
 pace_again Halving = (omega arith, refl, refl)
 pace_again TwoPhase = (omega arith, refl, refl)
 
 kind_again : (k : OrderKind) → (0 < length (order_name k)) × (clear (order_name k) ≡ true) × (order_word (order_name k) ≡ Ok k)
-unfolding order_word named
+unfolding order_word is_name
 kind_again Deliver = (omega arith, refl, refl)
 kind_again Lose = (omega arith, refl, refl)
 kind_again Crash = (omega arith, refl, refl)
@@ -159,12 +159,12 @@ kind_again Leave = (omega arith, refl, refl)
 kind_again Wait = (omega arith, refl, refl)
 
 cap_again : Ok tt ≡ only (codes "cap") (codes "cap")
-unfolding only named
+unfolding only is_name
 cap_again = refl
 
 -- the start
 start_again : (s : Start) → StartFits s → start_in (start_words s) ≡ Ok (Some s)
-unfolding start_in start_behind due over
+unfolding start_in start_behind next_word no_words
 start_again s f =
     let k = (group_again s.kind).2 in
     let n = number_again 255 s.parties (omega arith) (omega arith) in
@@ -200,12 +200,12 @@ start_clear s f =
     word (group_name s.kind) v1 k.0 k.1 w1
 
 -- a byte that the order names, or 0
-due_again : (b : Bool) (n : ℕ) (ws : List (List ℕ)) → n ≤ 255 → (b ≡ false → n ≡ 0) → (Ok n ≡ due_if b (named_if b n ws)) × (ws ≡ behind_if b (named_if b n ws))
-unfolding due_if due
+due_again : (b : Bool) (n : ℕ) (ws : List (List ℕ)) → n ≤ 255 → (b ≡ false → n ≡ 0) → (Ok n ≡ byte_if b (number_if b n ws)) × (ws ≡ words_after_if b (number_if b n ws))
+unfolding byte_if next_word
 due_again true n ws le z = (sym (number_again 255 n le (omega arith)), refl)
 due_again false n ws le z = (ap Ok (z refl), refl)
 
-named_clear : (b : Bool) (n : ℕ) (ws : List (List ℕ)) → n ≤ 255 → Words ws → Words (named_if b n ws)
+named_clear : (b : Bool) (n : ℕ) (ws : List (List ℕ)) → n ≤ 255 → Words ws → Words (number_if b n ws)
 named_clear true n ws le h = decimal_word n ws (omega arith) h
 named_clear false n ws le h = h
 
@@ -214,19 +214,19 @@ module _ (o : Order) (f : OrderFits o) where
   order_clear : Words (order_words o)
   order_clear =
       let k = kind_again o.kind in
-      let v3 = named_if (has_leg o.kind) o.leg [] in
-      let v2 = named_if (has_party o.kind) o.party v3 in
+      let v3 = number_if (has_leg o.kind) o.leg [] in
+      let v2 = number_if (has_party o.kind) o.party v3 in
       let w3 = named_clear (has_leg o.kind) o.leg [] (omega arith) tt in
       let w2 = named_clear (has_party o.kind) o.party v3 (omega arith) w3 in
       let w1 = word (order_name o.kind) v2 k.0 k.1 w2 in
       decimal_word o.tick (order_name o.kind ∷ v2) (omega arith) w1
 
   order_again : (has_party o.kind ≡ false → o.party ≡ 0) → (has_leg o.kind ≡ false → o.leg ≡ 0) → order_in (order_words o) ≡ Ok (Some o)
-  unfolding order_in order_behind due over
+  unfolding order_in order_behind next_word no_words
   order_again p l =
       let t = number_again 4294967295 o.tick (omega arith) (omega arith) in
       let k = (kind_again o.kind).2 in
-      let a = due_again (has_party o.kind) o.party (named_if (has_leg o.kind) o.leg []) (omega arith) p in
+      let a = due_again (has_party o.kind) o.party (number_if (has_leg o.kind) o.leg []) (omega arith) p in
       let b = due_again (has_leg o.kind) o.leg [] (omega arith) l in
       let a0 = sym a.0 in
       let a1 = sym a.1 in
@@ -244,7 +244,7 @@ lines_of t (o ∷ os) h =
     lines_again (order_words o) (flat_map (λ o. text_line (order_words o)) os) (order_clear o h.0) ∙ ap (λ z. join_with_byte 0x20 (order_words o) ∷ z) (lines_of o.tick os h.2)
 
 orders_again : (os : List Order) (s : Start) (n : ℕ) (xs ys : List Order) → InOrder (last_time tick_of xs) os → Named os → length os ≤ length ys →
-    orders_from s n (order_lines os) xs ys ≡ ended (Ok s) (n + length os) (xs ++ os) (drop (length os) ys)
+    orders_from s n (order_lines os) xs ys ≡ reading_end (Ok s) (n + length os) (xs ++ os) (drop (length os) ys)
 unfolding orders_from
 orders_again [] s n xs ys t z room = rw (add-zero, append-nil)
 orders_again (o ∷ os) s n xs ys t z room =
@@ -252,10 +252,10 @@ orders_again (o ∷ os) s n xs ys t z room =
     let k = says_ok tick_of xs ys o (omega arith) t.1 in
     let more = orders_from s (n + 1) (order_lines os) in
     let last : n + 1 + length os ≡ n + length (o ∷ os) = omega arith in
-    ap (λ r. order_met (n + 1) more xs ys r) e
-    ∙ ap (λ r. appended (n + 1) xs ys (more (xs ++ o ∷ []) (drop 1 ys)) r) (sym k)
+    ap (λ r. order_reading (n + 1) more xs ys r) e
+    ∙ ap (λ r. append_reading (n + 1) xs ys (more (xs ++ o ∷ []) (drop 1 ys)) r) (sym k)
     ∙ orders_again os s (n + 1) (xs ++ o ∷ []) (drop 1 ys) (rw last_of_appended t.2) z.2 (simp length-drop (omega arith))
-    ∙ ap (λ i. ended (Ok s) i ((xs ++ o ∷ []) ++ os) (drop (length os) (drop 1 ys))) last
+    ∙ ap (λ i. reading_end (Ok s) i ((xs ++ o ∷ []) ++ os) (drop (length os) (drop 1 ys))) last
     ∙ rw (append_assoc, drop-drop, one-add)
 
 pub rendered_texts : RenderedTextsRead
@@ -263,10 +263,10 @@ unfolding lines_from
 rendered_texts s os slots f t z room =
     let ws = start_words s in
     let ok = start_clear s f in
-    let cut : lines_in (rendered s os) ≡ join_with_byte 0x20 ws ∷ order_lines os =
+    let cut : lines_in (text_of s os) ≡ join_with_byte 0x20 ws ∷ order_lines os =
     lines_again ws (flat_map (λ o. text_line (order_words o)) os) ok ∙ ap (λ ls. join_with_byte 0x20 ws ∷ ls) (lines_of 0 os t) in
     let e : start_in (line_words (join_with_byte 0x20 ws)) ≡ Ok (Some s) = ap start_in (line_again ws ok) ∙ start_again s f in
     let ls = order_lines os in
     ap (λ ls. lines_from 0 ls [] slots) cut
-    ∙ ap (λ r. start_met 1 (lines_from 1 ls [] slots) (λ s. orders_from s 1 ls [] slots) [] slots r) e
+    ∙ ap (λ r. start_reading 1 (lines_from 1 ls [] slots) (λ s. orders_from s 1 ls [] slots) [] slots r) e
     ∙ orders_again os s 1 [] slots t z room

@@ -2,8 +2,8 @@
 use Rattle.std.proofs.Common.{◌≡◌, ℕ, ◌<◌, ◌≤◌, cond, List, [], ◌∷◌, length, filter, nat_lt, lt-ltb, Ok, refl, ap, ◌∙◌, arith}
 use Rattle.std.specs.List.{before_first, after_first}
 use Rattle.schedule.specs.Cuts.{ends_line, is_blank, pieces, lines_in, words_in}
-use Rattle.schedule.specs.Records.{due}
-use Rattle.schedule.specs.Words.{number}
+use Rattle.schedule.specs.Records.{next_word}
+use Rattle.schedule.specs.Words.{number_word}
 use Rattle.schedule.proofs.Numbers.{number_le}
 use Rattle.schedule.proofs.Pieces.{first_piece}
 
@@ -44,7 +44,7 @@ no_line [] h = refl
 no_line (b ∷ bs) h = absurd (omega arith)
 
 -- a number that was taken is not too large
-pub due_le : (max : ℕ) (ws : List (List ℕ)) (n : ℕ) → due (number max) ws ≡ Ok n → n ≤ max
-unfolding due
+pub due_le : (max : ℕ) (ws : List (List ℕ)) (n : ℕ) → next_word (number_word max) ws ≡ Ok n → n ≤ max
+unfolding next_word
 due_le max [] n e = absurd (let z : ◌≡◌ {A = ℕ} 0 1 = cc in omega arith)
 due_le max (w ∷ ws) n e = number_le max w n e

@@ -19,6 +19,6 @@ cause_number NoRoom = 12
 cause_number EarlierTick = 14
 
 -- why the list refuses an order
-abbrev pub refused : Refusal → Cause
-refused SlotsTaken = NoSlot
-refused Earlier = EarlierTick
+abbrev pub refusal_cause : Refusal → Cause
+refusal_cause SlotsTaken = NoSlot
+refusal_cause Earlier = EarlierTick

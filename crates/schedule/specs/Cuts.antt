@@ -15,14 +15,14 @@ abbrev pub is_blank : ℕ → Bool
 is_blank b = b == 0x20 || (b == 0x09 || b == 0x0D)
 
 -- a byte more in front of the first piece
-abbrev pub onto : ℕ → List (List ℕ) → List (List ℕ)
-onto b [] = (b ∷ []) ∷ []
-onto b (p ∷ ps) = (b ∷ p) ∷ ps
+abbrev pub with_first_byte : ℕ → List (List ℕ) → List (List ℕ)
+with_first_byte b [] = (b ∷ []) ∷ []
+with_first_byte b (p ∷ ps) = (b ∷ p) ∷ ps
 
 -- the pieces that the bytes picked by m end; the last one may lack its end
 abbrev pub pieces : (ℕ → Bool) → List ℕ → List (List ℕ)
 pieces m [] = []
-pieces m (b ∷ bs) = cond (m b) ([] ∷ pieces m bs) (onto b (pieces m bs))
+pieces m (b ∷ bs) = cond (m b) ([] ∷ pieces m bs) (with_first_byte b (pieces m bs))
 
 -- the lines of a text
 unfoldable pub lines_in : List ℕ → List (List ℕ)

@@ -12,34 +12,36 @@ use Rattle.schedule.specs.declared.complaint.Cause.{Cause}
 use Rattle.schedule.specs.declared.complaint.Cause.TheVariants.{UnknownWord, NotANumber, NumberTooLarge}
 
 -- whether a word is the name of something
-unfoldable pub named : List ℕ → List ℕ → Bool
-named w name = bytes_eq w name
+unfoldable pub is_name : List ℕ → List ℕ → Bool
+is_name w name = bytes_eq w name
 
 -- a number of digits alone, and max at most
-unfoldable pub number : ℕ → List ℕ → Result ℕ Cause
-number max w =
-    cond (all_ascii_digits w) (cond (nat_le (read_on 0 w) max) (Ok (read_on 0 w)) (Err NumberTooLarge)) (Err NotANumber)
+unfoldable pub number_word : ℕ → List ℕ → Result ℕ Cause
+number_word max w =
+    cond (all_ascii_digits w)
+    (cond (nat_le (read_on 0 w) max) (Ok (read_on 0 w)) (Err NumberTooLarge))
+    (Err NotANumber)
 
 unfoldable pub group_word : List ℕ → Result GroupKind Cause
 group_word w =
-    cond (named w (codes "closed")) (Ok Closed)
-    (cond (named w (codes "expanding")) (Ok Expanding)
-    (cond (named w (codes "dynamic")) (Ok Dynamic) (Err UnknownWord)))
+    cond (is_name w (codes "closed")) (Ok Closed)
+    (cond (is_name w (codes "expanding")) (Ok Expanding)
+    (cond (is_name w (codes "dynamic")) (Ok Dynamic) (Err UnknownWord)))
 
 unfoldable pub pace_word : List ℕ → Result PaceKind Cause
 pace_word w =
-    cond (named w (codes "halving")) (Ok Halving)
-    (cond (named w (codes "two-phase")) (Ok TwoPhase) (Err UnknownWord))
+    cond (is_name w (codes "halving")) (Ok Halving)
+    (cond (is_name w (codes "two-phase")) (Ok TwoPhase) (Err UnknownWord))
 
 unfoldable pub order_word : List ℕ → Result OrderKind Cause
 order_word w =
-    cond (named w (codes "deliver")) (Ok Deliver)
-    (cond (named w (codes "lose")) (Ok Lose)
-    (cond (named w (codes "crash")) (Ok Crash)
-    (cond (named w (codes "join")) (Ok Join)
-    (cond (named w (codes "leave")) (Ok Leave)
-    (cond (named w (codes "wait")) (Ok Wait) (Err UnknownWord))))))
+    cond (is_name w (codes "deliver")) (Ok Deliver)
+    (cond (is_name w (codes "lose")) (Ok Lose)
+    (cond (is_name w (codes "crash")) (Ok Crash)
+    (cond (is_name w (codes "join")) (Ok Join)
+    (cond (is_name w (codes "leave")) (Ok Leave)
+    (cond (is_name w (codes "wait")) (Ok Wait) (Err UnknownWord))))))
 
 -- a word that has to be just this one
 unfoldable pub only : List ℕ → List ℕ → Result (Unit {0}) Cause
-only name w = cond (named w name) (Ok tt) (Err UnknownWord)
+only name w = cond (is_name w name) (Ok tt) (Err UnknownWord)

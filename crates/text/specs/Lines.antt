@@ -3,13 +3,13 @@ use Rattle.std.specs.Prelude.{◌≡◌, ℕ, ◌+◌, ◌-◌, ◌≤◌, cond,
 use Rattle.text.specs.declared.line_bytes.LineBytes.{LineBytes}
 
 -- the text with more after it, or as it was where that passes 128 bytes
-unfoldable pub added : List ℕ → List ℕ → List ℕ
-added t more = cond (nat_le (length t + length more) 128) (t ++ more) t
+unfoldable pub line_with : List ℕ → List ℕ → List ℕ
+line_with t more = cond (nat_le (length t + length more) 128) (t ++ more) t
 
 -- the text with zeros after it, 128 bytes in all
-abbrev pub padded : List ℕ → List ℕ
-padded t = t ++ replicate (128 - length t) 0
+abbrev pub padded_text : List ℕ → List ℕ
+padded_text t = t ++ replicate (128 - length t) 0
 
 -- a text answered as 128 bytes, the rest 0, with its length
 abbrev pub AnsweredAs : List ℕ → LineBytes → Type 0
-AnsweredAs t answer = (answer.bytes ≡ padded t) × (answer.len ≡ length t)
+AnsweredAs t answer = (answer.bytes ≡ padded_text t) × (answer.len ≡ length t)

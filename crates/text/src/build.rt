@@ -1,6 +1,6 @@
 // A line grows by texts and numbers, each of which is added whole or not at all.
 ghost use Rattle.std.specs.Prelude.{◌≡◌, ◌≤◌, [], length, decimal};
-ghost use Rattle.text.specs.Lines.{added, padded};
+ghost use Rattle.text.specs.Lines.{line_with, padded_text};
 
 use super::bytes::put;
 use super::decimal::digits;
@@ -29,7 +29,7 @@ impl Line {
     /// All of its bytes, those past the text 0, and the text's length.
     #[tactic(auto, using(crate::proofs::Lines::padded_front))]
     pub fn into_bytes(self) -> LineBytes
-        ensures bytes { result.bytes ≡ padded self }
+        ensures bytes { result.bytes ≡ padded_text self }
         ensures len { result.len ≡ length self }
         ensures within { result.len ≤ 128 }
     {
@@ -39,16 +39,16 @@ impl Line {
     }
 
     /// Adds a text where it fits, and changes nothing where it does not.
-    #[tactic(auto, unfolding(crate::specs::Lines::added))]
+    #[tactic(auto, unfolding(crate::specs::Lines::line_with))]
     pub fn add(&mut self, more: &[u8])
-        ensures { self.new ≡ added self.old more.now }
+        ensures { self.new ≡ line_with self.old more.now }
     {
         let _ = self.text.try_extend_from_slice(more);
     }
 
     /// Adds a number in decimal where it fits, and changes nothing where it does not.
     pub fn number(&mut self, n: u64)
-        ensures { self.new ≡ added self.old (decimal n) }
+        ensures { self.new ≡ line_with self.old (decimal n) }
     {
         self.add(digits(n).as_slice());
     }

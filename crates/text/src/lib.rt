@@ -9,10 +9,10 @@ pub mod bytes;
 mod decimal;
 pub mod line_bytes;
 
-/// How many bytes a line has room for.
+// How many bytes a line has room for.
 pub(crate) const SIZE: usize = 128;
 
-/// A line under construction. A contract sees it as its text.
+/// A line under construction, of at most 128 bytes. A contract sees its text.
 #[derive(Drop)]
 pub struct Line {
     text: ArrayVec<u8, SIZE>,

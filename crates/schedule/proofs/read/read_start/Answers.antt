@@ -3,7 +3,7 @@ use Rattle.std.proofs.lemmas.Result.{err_from_is_err_and}
 use Rattle.schedule.specs.declared.complaint.Cause.TheVariants.{NoStart}
 use Rattle.schedule.specs.Cuts.{lines_in, line_words}
 use Rattle.schedule.specs.Records.{start_in}
-use Rattle.schedule.specs.Texts.{ended, lines_from, orders_from}
+use Rattle.schedule.specs.Texts.{reading_end, lines_from, orders_from}
 use Rattle.schedule.specs.Steps.{past_start, at_line}
 use Rattle.schedule.proofs.Walks.{start_asked, start_lacking, start_found, no_words, wrong_word}
 use Rattle.schedule.proofs.read.read_start.Goals as goal
@@ -42,4 +42,4 @@ returns c =
     let l = c.loop-text in
     let n : l.lines.number + 1 ≡ c.number-2.result + 1 = let h = c.in_default.ensures.steps.2 in omega arith in
     λ xs ys. l.invariant xs ys ∙ start_lacking l.lines.number (lines_in l.lines.rest.now) xs ys c.in_default.ensures.steps.0
-    ∙ ap (λ n. ended (Err NoStart) n xs ys) n
+    ∙ ap (λ n. reading_end (Err NoStart) n xs ys) n
