@@ -8,7 +8,7 @@ Plain [] = Unit {0}
 Plain (c ∷ cs) = (class c ≡ other) × Plain cs
 
 -- the scanner takes plain bytes into the value or the text at hand
-pub value_on : (n k : List ℕ) (xs : List Attribute) (v ds rest : List ℕ) → Plain ds → scan (in_value n xs k v) (ds ++ rest) ≡ scan (in_value n xs k (v ++ ds)) rest
+value_on : (n k : List ℕ) (xs : List Attribute) (v ds rest : List ℕ) → Plain ds → scan (in_value n xs k v) (ds ++ rest) ≡ scan (in_value n xs k (v ++ ds)) rest
 value_on n k xs v [] rest p = rw append-nil
 value_on n k xs v (d ∷ ds) rest p =
     rw p.0 (value_on n k xs (v ++ (d ∷ [])) ds rest p.1 ∙ ap (λ (u : List ℕ). scan (in_value n xs k u) rest) (append_assoc v (d ∷ []) ds))

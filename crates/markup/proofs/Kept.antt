@@ -90,10 +90,6 @@ module _ {T : Type 0} (w : Spelling T) where
       (λ x. subst (Each P) (sym (fitting_part_cut room t i none p x)) (q, inside, tt))
       (cases_Bool (all_fits w left i))
 
-  -- one element alone
-  pub one_each : (P : T → Type 0) (room : ℕ) (t : T) → P t → Each P (fitting_part w room (one t))
-  one_each P room t p = fitting_part_each P room (one t) (p, tt, tt)
-
   -- what is kept of an element that is not kept whole is all that is kept
   pub kept_first : (room : ℕ) (t : T) (i a : Forest T) → all_fits w room (element t i none) ≡ false →
       fitting_part w room (element t i a) ≡ fitting_part w room (element t i none)

@@ -69,7 +69,7 @@ orders_again (o ∷ os) (suc n) s bs p at xs ys b a lt t room =
     let r = order_bytes o in
     let q = flat_map order_bytes os in
     let b' : bs ≡ p ++ r ++ q = b ∙ sym (append_assoc p r q) in
-    let e : order_at bs at ≡ Ok (Some o) = rw (b', a) (order_again p q o t.0.2) in
+    let e : order_at bs at ≡ Ok (Some o) = rw (b', a) (order_again p q o t.0.tick) in
     let k = says_ok tick_of xs ys o (omega arith) t.1 in
     let next = orders_from n s bs (at + 9) (xs ++ o ∷ []) (drop 1 ys) in
     ap (λ z. record_outcome (orders_from n s bs) s at xs ys z) e
@@ -82,5 +82,5 @@ pub written_files : WrittenFilesLoad
 written_files s os xs ys f t room =
     let r = start_bytes s in
     let q = flat_map order_bytes os in
-    ap (λ z. start_outcome (bytes_of_file s os) xs ys z) (start_again [] q s f.1 f.2)
+    ap (λ z. start_outcome (bytes_of_file s os) xs ys z) (start_again [] q s f.tmin f.tmax)
     ∙ orders_again os (length (bytes_of_file s os)) s (bytes_of_file s os) r 14 xs ys refl refl (omega arith) t room

@@ -7,6 +7,7 @@ use Rattle.orders.specs.declared.start.PaceKind.TheVariants.{Halving, TwoPhase}
 use Rattle.orders.specs.declared.start.Start.{Start}
 use Rattle.orders.specs.Loading.{load_outcome, end_outcome}
 
+-- a file, and what it says
 pub record Row : Type 0 where
   pub file : List ℕ
   pub start : Start
@@ -60,5 +61,7 @@ Stands r =
     → load_outcome r.file [] slots
     ≡ end_outcome r.orders (drop (length r.orders) slots) (Ok r.start)
 
-abbrev pub ExamplesLoad : Type 0
-ExamplesLoad = Stands bare × Stands long_numbers × Stands each_kind
+pub record ExamplesLoad : Type 0 where
+  pub without_orders : Stands bare
+  pub of_long_numbers : Stands long_numbers
+  pub of_each_kind : Stands each_kind

@@ -52,12 +52,18 @@ start_outcome bs xs ys (Err f) = end_outcome xs ys (Err f)
 abbrev pub load_outcome : List ℕ → List Order → List Order → LoadOutcome
 load_outcome bs xs ys = start_outcome bs xs ys (start_at bs 0)
 
--- the fields have the widths that a record has room for
-abbrev pub StartFits : Start → Type 0
-StartFits s = (s.parties < 256) × (s.tmin < 2 ^ 32) × (s.tmax < 2 ^ 32) × (s.cap < 256)
+-- the fields of a start have the widths that its record has room for
+pub record StartFits (s : Start) : Type 0 where
+  pub parties : s.parties < 256
+  pub tmin : s.tmin < 2 ^ 32
+  pub tmax : s.tmax < 2 ^ 32
+  pub cap : s.cap < 256
 
-abbrev pub OrderFits : Order → Type 0
-OrderFits o = (o.party < 256) × (o.leg < 256) × (o.tick < 2 ^ 32)
+-- and so do those of an order
+pub record OrderFits (o : Order) : Type 0 where
+  pub party : o.party < 256
+  pub leg : o.leg < 256
+  pub tick : o.tick < 2 ^ 32
 
 -- orders of which each fits and none comes before the one in front of it, the first not before t
 abbrev pub InOrder : ℕ → List Order → Type 0

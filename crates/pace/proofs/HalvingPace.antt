@@ -142,10 +142,10 @@ module _ (l : Limits) where
 
 -- the last place is the largest k with tmin * 2 ^ k at most tmax
 largest : (tmin tmax m : ℕ) → Last tmin tmax m → Largest tmin tmax m
-largest tmin tmax m last = (
-  (le-div_iff_mul-le (pow_pos m)).0 last.reached,
-  λ j le. let r : tmin ≤ tmax / 2 ^ j = (le-div_iff_mul-le (pow_pos j)).1 le in ⊎_elim (λ lt. absurd (omega (arith, r, last.beyond, shr_anti tmax (suc m) j lt))) (λ x. x) (cases_lt m j),
-)
+largest tmin tmax m last = record {
+  fits = (le-div_iff_mul-le (pow_pos m)).0 last.reached;
+  most = λ j le. let r : tmin ≤ tmax / 2 ^ j = (le-div_iff_mul-le (pow_pos j)).1 le in ⊎_elim (λ lt. absurd (omega (arith, r, last.beyond, shr_anti tmax (suc m) j lt))) (λ x. x) (cases_lt m j);
+}
 
 -- what is told of a number of waits
 pub record Told (l : Limits) (r : ℕ) : Type 0 where

@@ -41,9 +41,9 @@ start_behind_fits kind w0 s e =
     let c = due_le 4294967295 w3 p3.0 p3.1 in
     let d = due_le 255 w5 p5.0 p5.1 in
     let z : record { kind = kind; parties = p0.0; tmin = p2.0; tmax = p3.0; pace = p1.0; cap = p5.0 } ≡ s = let last = p6.2 in cc in
-    subst (λ (x : Start). StartFits x) z (omega arith, omega arith, omega arith, omega arith)
+    subst (λ (x : Start). StartFits x) z record { parties = omega arith; tmin = omega arith; tmax = omega arith; cap = omega arith }
 
-pub start_fits : (ws : List (List ℕ)) (s : Start) → start_in ws ≡ Ok (Some s) → StartFits s
+start_fits : (ws : List (List ℕ)) (s : Start) → start_in ws ≡ Ok (Some s) → StartFits s
 unfolding start_in
 start_fits [] s e = absurd (let z : ◌≡◌ {A = ℕ} 0 1 = cc in omega arith)
 start_fits (w ∷ ws) s e =
@@ -70,9 +70,9 @@ order_behind_fits tick w0 o le e =
     let a = due_if_le (has_party k) w1 p1.0 p1.1 in
     let b = due_if_le (has_leg k) w2 p2.0 p2.1 in
     let z : record { kind = k; party = p1.0; leg = p2.0; tick = tick } ≡ o = let last = p3.2 in cc in
-    subst (λ (x : Order). OrderFits x) z (omega arith, omega arith, omega arith)
+    subst (λ (x : Order). OrderFits x) z record { party = omega arith; leg = omega arith; tick = omega arith }
 
-pub order_fits : (ws : List (List ℕ)) (o : Order) → order_in ws ≡ Ok (Some o) → OrderFits o
+order_fits : (ws : List (List ℕ)) (o : Order) → order_in ws ≡ Ok (Some o) → OrderFits o
 unfolding order_in
 order_fits [] o e = absurd (let z : ◌≡◌ {A = ℕ} 0 1 = cc in omega arith)
 order_fits (w ∷ ws) o e =

@@ -7,10 +7,10 @@ module _ (b : List ℕ) (at : ℕ) (s : List ℕ) (h : at + length s ≤ length 
   front : length (take at b ++ s) ≡ at + length s
   front = length-append (take at b) s ∙ ap (λ n. n + length s) (length-take-le at b (omega arith))
 
-  pub take-with_text_at : take (at + length s) (with_text_at b at s) ≡ take at b ++ s
+  take-with_text_at : take (at + length s) (with_text_at b at s) ≡ take at b ++ s
   take-with_text_at = ap (take (at + length s)) (sym (append_assoc (take at b) s (drop (at + length s) b))) ∙ take_at (take at b ++ s) (drop (at + length s) b) (at + length s) front
 
-  pub drop-with_text_at : drop (at + length s) (with_text_at b at s) ≡ drop (at + length s) b
+  drop-with_text_at : drop (at + length s) (with_text_at b at s) ≡ drop (at + length s) b
   drop-with_text_at = ap (drop (at + length s)) (sym (append_assoc (take at b) s (drop (at + length s) b))) ∙ drop_at (take at b ++ s) (drop (at + length s) b) (at + length s) front
 
   pub length-with_text_at : length (with_text_at b at s) ≡ length b
