@@ -1,5 +1,5 @@
 -- What the bytes at a place read as.
-use Rattle.std.specs.Prelude.{ℕ, ◌+◌, ◌*◌, Bool, cond, ◌&&◌, List, [], ◌∷◌, length, Some, None, Ok, Err, Option, Result, ◌==◌, nat_le, slice_index}
+use Rattle.std.specs.Prelude.{ℕ, ◌+◌, ◌*◌, Bool, if◌then◌else◌, ◌&&◌, List, [], ◌∷◌, length, Some, None, Ok, Err, Option, Result, ◌==◌, nat_le, slice_index}
 use Rattle.protocol.specs.declared.kind.GroupKind.{GroupKind}
 use Rattle.protocol.specs.Kinds.{group_kind}
 use Rattle.orders.specs.declared.fault.ReadCause.{ReadCause}
@@ -46,10 +46,10 @@ order_of bs at (Some k) =
 -- the order at a place, none at the end, or what is wrong with the record there
 abbrev pub order_at : List ℕ → ℕ → Result (Option Order) ReadFault
 order_at bs at =
-    cond (at == length bs) (Ok None)
-    (cond (is_whole (0x48 ∷ 0x4F ∷ []) 9 bs at)
-    (order_of bs at (order_kind (slice_index bs (at + 2))))
-    (Err (fault at NotWhole)))
+    if at == length bs then Ok None else
+    (if is_whole (0x48 ∷ 0x4F ∷ []) 9 bs at
+    then order_of bs at (order_kind (slice_index bs (at + 2)))
+    else Err (fault at NotWhole))
 
 -- a start record by its group kind and its pace, if those are known
 abbrev pub start_of : List ℕ → ℕ → Option GroupKind → Option PaceKind → Result Start ReadFault
@@ -68,9 +68,9 @@ start_of bs at (Some k) (Some p) =
 -- the start record at a place, or what is wrong with it
 abbrev pub start_at : List ℕ → ℕ → Result Start ReadFault
 start_at bs at =
-    cond (is_whole (0x48 ∷ 0x47 ∷ []) 14 bs at)
-    (start_of bs at (group_kind (slice_index bs (at + 2))) (pace_kind (slice_index bs (at + 12))))
-    (Err (fault at NotWhole))
+    if is_whole (0x48 ∷ 0x47 ∷ []) 14 bs at
+    then start_of bs at (group_kind (slice_index bs (at + 2))) (pace_kind (slice_index bs (at + 12)))
+    else Err (fault at NotWhole)
 
 -- where the next record begins: a record that was read is passed
 abbrev pub place_after_order : Result (Option Order) ReadFault → ℕ → ℕ

@@ -1,5 +1,5 @@
 -- What comes of a text: the answer, and what the output then holds.
-use Rattle.std.specs.Prelude.{◌≡◌, ℕ, ◌+◌, ◌≤◌, cond, List, [], ◌++◌, length, drop, Ok, Err, Result, nat_le}
+use Rattle.std.specs.Prelude.{◌≡◌, ℕ, ◌+◌, ◌≤◌, if◌then◌else◌, List, [], ◌++◌, length, drop, Ok, Err, Result, nat_le}
 use Rattle.orders.specs.declared.order.Order.{Order}
 use Rattle.orders.specs.declared.start.Start.{Start}
 use Rattle.orders.specs.Loading.{load_outcome, end_outcome}
@@ -17,15 +17,17 @@ with_file file out = file ++ drop (length file) out
 -- behind the last one
 abbrev pub answer_of : Result Start Cause → ℕ → List Order → (room : ℕ) → Result ℕ Complaint
 answer_of (Ok s) n os room =
-    cond (nat_le (length (bytes_of_file s os)) room)
-    (Ok (length (bytes_of_file s os)))
-    (Err record { line = n + 1; cause = NoRoom })
+    if nat_le (length (bytes_of_file s os)) room
+    then Ok (length (bytes_of_file s os))
+    else Err record { line = n + 1; cause = NoRoom }
 answer_of (Err e) n os room = Err record { line = n; cause = e }
 
 -- no byte is written but those of a file that fits
 abbrev pub output_of : Result Start Cause → List Order → List ℕ → List ℕ
 output_of (Ok s) os out =
-    cond (nat_le (length (bytes_of_file s os)) (length out)) (with_file (bytes_of_file s os) out) out
+    if nat_le (length (bytes_of_file s os)) (length out)
+    then with_file (bytes_of_file s os) out
+    else out
 output_of (Err e) os out = out
 
 abbrev pub compose_answer : Reading → (room : ℕ) → Result ℕ Complaint

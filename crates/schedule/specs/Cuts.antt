@@ -1,5 +1,5 @@
 -- A text in pieces.
-use Rattle.std.specs.Prelude.{ℕ, Bool, cond, ◌||◌, List, [], ◌∷◌, length, filter, ◌==◌, nat_lt}
+use Rattle.std.specs.Prelude.{ℕ, Bool, if◌then◌else◌, ◌||◌, List, [], ◌∷◌, length, filter, ◌==◌, nat_lt}
 use Rattle.std.specs.List.{before_first}
 
 -- the byte that ends a line
@@ -22,7 +22,7 @@ with_first_byte b (p ∷ ps) = (b ∷ p) ∷ ps
 -- the pieces that the bytes picked by m end; the last one may lack its end
 abbrev pub pieces : (ℕ → Bool) → List ℕ → List (List ℕ)
 pieces m [] = []
-pieces m (b ∷ bs) = cond (m b) ([] ∷ pieces m bs) (with_first_byte b (pieces m bs))
+pieces m (b ∷ bs) = if m b then [] ∷ pieces m bs else with_first_byte b (pieces m bs)
 
 -- the lines of a text
 unfoldable pub lines_in : List ℕ → List (List ℕ)

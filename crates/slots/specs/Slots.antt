@@ -1,5 +1,5 @@
 -- A list in slots, by its records and its spare slots.
-use Rattle.std.specs.Prelude.{◌≡◌, ℕ, ◌-◌, ◌<◌, ◌≤◌, cond, List, ◌++◌, map, length, take, drop, Ok, Err, Option, Result, MatchOption, ◌==◌, nat_lt, nat_le, slice_index}
+use Rattle.std.specs.Prelude.{◌≡◌, ℕ, ◌-◌, ◌<◌, ◌≤◌, if◌then◌else◌, List, ◌++◌, map, length, take, drop, Ok, Err, Option, Result, MatchOption, ◌==◌, nat_lt, nat_le, slice_index}
 use Rattle.std.specs.List.{position}
 use Rattle.std.specs.List.Sorted.{IsNonDecreasingBy}
 use Rattle.slots.specs.declared.SlotList.{SlotList}
@@ -33,8 +33,8 @@ module _ {X : Type 0} where
   -- x's time at least the last record's
   abbrev pub append_answer : (X → ℕ) → List X → List X → X → Result (Unit {0}) Refusal
   append_answer time xs ys x =
-      cond (length ys == 0) (Err NoSlot)
-      (cond (nat_lt (time x) (last_time time xs)) (Err Earlier) (Ok tt))
+      if length ys == 0 then Err NoSlot else
+      (if nat_lt (time x) (last_time time xs) then Err Earlier else Ok tt)
 
   -- rs were appended, in as many of the spare slots, and every other slot is as it was
   pub record Appends (l l' : SlotList X) (rs : List X) : Type 0 where

@@ -1,10 +1,10 @@
 -- A line under construction, by its text.
-use Rattle.std.specs.Prelude.{◌≡◌, ℕ, ◌+◌, ◌-◌, ◌≤◌, cond, List, ◌++◌, length, take, drop, replicate, nat_le}
+use Rattle.std.specs.Prelude.{◌≡◌, ℕ, ◌+◌, ◌-◌, ◌≤◌, if◌then◌else◌, List, ◌++◌, length, take, drop, replicate, nat_le}
 use Rattle.text.specs.declared.line_bytes.LineBytes.{LineBytes}
 
 -- the text with more after it, or as it was where that passes 128 bytes
 unfoldable pub line_with : List ℕ → List ℕ → List ℕ
-line_with t more = cond (nat_le (length t + length more) 128) (t ++ more) t
+line_with t more = if nat_le (length t + length more) 128 then t ++ more else t
 
 -- the text with zeros after it, 128 bytes in all
 abbrev pub padded_text : List ℕ → List ℕ

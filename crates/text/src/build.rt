@@ -1,12 +1,27 @@
-// A line grows by texts and numbers, each of which is added whole or not at all.
+// A line under construction.
 ghost use Rattle.std.specs.Prelude.{◌≡◌, ◌≤◌, [], length, decimal};
 ghost use Rattle.text.specs.Lines.{line_with, padded_text};
 
 use super::bytes::put;
 use super::decimal::digits;
-use super::line_bytes::LineBytes;
-use super::{Line, SIZE};
+use super::line_bytes::{LineBytes, SIZE};
 use arrayvec::ArrayVec;
+use std::marker::Model;
+
+/// A line that grows by texts and numbers, each of which is added whole or not at all. It has room for
+/// 128 bytes. A contract sees its text.
+#[derive(Drop)]
+pub struct Line {
+    text: ArrayVec<u8, SIZE>,
+}
+
+impl Model for Line {
+    ghost use Rattle.std.specs.Prelude.{ℕ, List};
+
+    ghost Value = { List ℕ };
+
+    ghost view = { λ l. l.text.items };
+}
 
 impl Line {
     /// An empty line.

@@ -1,7 +1,8 @@
 // A finished line, as it is handed out.
 ghost use Rattle.std.specs.Prelude.{◌≡◌, ◌≤◌, take};
 
-use super::SIZE;
+// How many bytes a line has room for.
+pub(crate) const SIZE: usize = 128;
 
 /// A line as a table of bytes, of which the first `len` are its text.
 ///
