@@ -1,5 +1,6 @@
 -- What marks come to: one element with everything in it, each closed by an end tag of its own name.
-use Rattle.std.specs.Prelude.{ℕ, Bool, true, false, ◌==◌, ◌&&◌, not, List, [], ◌∷◌, Some, None, Option, IsSome, bytes_eq, if◌then◌else◌}
+use Rattle.std.specs.Prelude.{ℕ, Bool, true, false, ◌==◌, ◌&&◌, ◌||◌, not, List, [], ◌∷◌, Some, None, Option, IsSome, bytes_eq, if◌then◌else◌}
+use Rattle.std.specs.List.{list_all, list_any}
 use Rattle.markup.specs.Marks.{Attribute, Mark, declares, starts, stops, stands, says, fault, marks}
 
 -- what stands between two tags: nothing, or a text or an element after what stands before it
@@ -15,8 +16,7 @@ pub record OpenElement : Type 0 where
   pub attributes : List Attribute
 
 abbrev pub has_key : List ℕ → List Attribute → Bool
-has_key k [] = false
-has_key k (a ∷ xs) = if bytes_eq a.key k then true else has_key k xs
+has_key k xs = list_any (λ a. bytes_eq a.key k) xs
 
 -- no key stands twice
 abbrev pub keys_differ : List Attribute → Bool
@@ -41,19 +41,19 @@ content_from os c (stands n xs ∷ ms) =
 content_from os c (says t ∷ ms) = content_from os (words c t) ms
 content_from os c (fault ∷ ms) = None
 
-abbrev pub is_blank : List ℕ → Bool
-is_blank [] = true
-is_blank (c ∷ t) = (if c == 32 then true else c == 10) && is_blank t
+-- spaces and line feeds alone
+abbrev pub are_blanks : List ℕ → Bool
+are_blanks t = list_all (λ c. c == 32 || c == 10) t
 
 abbrev pub has_no_element : Content → Bool
 has_no_element empty = true
-has_no_element (words c t) = is_blank t && has_no_element c
+has_no_element (words c t) = are_blanks t && has_no_element c
 has_no_element (element c n xs inside) = false
 
 -- one element, and blanks alone before it and after it
 abbrev pub is_one_element : Content → Bool
 is_one_element empty = false
-is_one_element (words c t) = is_blank t && is_one_element c
+is_one_element (words c t) = are_blanks t && is_one_element c
 is_one_element (element c n xs inside) = has_no_element c
 
 abbrev pub sole_element : Option Content → Option Content

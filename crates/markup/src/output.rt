@@ -3,7 +3,8 @@ ghost use Rattle.markup.specs.Held.{state_of, with_text_that_fits, with_less_roo
 
 use text::bytes::put;
 
-/// Lent bytes, written from the first on; with some of them set aside for the closings of what is open.
+/// Lent bytes, written from the first on, with some of them set aside for the closings of what is
+/// open.
 #[derive(Drop)]
 pub struct Output<'a, C> {
     /// What is written, and behind it what was there before.
@@ -34,7 +35,8 @@ impl<C> Output<'_, C> {
     pub fn begin(&mut self, opening: &[u8], closing: usize) -> Result<(), Cut>
         ensures room { is_ok result ≡ has_room (state_of self.old) opening.now closing }
         ensures after { state_of self.new ≡ (if is_ok result
-            then with_text_that_fits (with_less_room (state_of self.old) (length opening.now + closing)) opening.now
+            then with_text_that_fits
+            (with_less_room (state_of self.old) (length opening.now + closing)) opening.now
             else state_of self.old) }
         ensures end { is_ok result ≡ true → (state_of self.new).at < 2 ^ 64 }
         ensures counts { self.new.counts ≡ self.old.counts }

@@ -27,8 +27,14 @@ long_numbers = record {
   file =
       (0x48 ∷ 0x47 ∷ 2 ∷ 32 ∷ 1 ∷ 2 ∷ 3 ∷ 4 ∷ 5 ∷ 6 ∷ 7 ∷ 8 ∷ 2 ∷ 9 ∷ [])
       ++ (0x48 ∷ 0x4F ∷ 6 ∷ 0 ∷ 0 ∷ 10 ∷ 11 ∷ 12 ∷ 13 ∷ []);
-  start =
-      record { kind = Expanding; parties = 32; tmin = 16909060; tmax = 84281096; pace = TwoPhase; cap = 9 };
+  start = record {
+    kind = Expanding;
+    parties = 32;
+    tmin = 16909060;
+    tmax = 84281096;
+    pace = TwoPhase;
+    cap = 9;
+  };
   orders = record { kind = Wait; party = 0; leg = 0; tick = 168496141 } ∷ [];
 }
 

@@ -35,7 +35,8 @@ abbrev pub record_outcome :
     → Result (Option Order) ReadFault → LoadOutcome
 record_outcome more s at xs ys (Ok None) = end_outcome xs ys (Ok s)
 record_outcome more s at xs ys (Ok (Some o)) =
-    append_outcome at xs ys (more (at + 9) (xs ++ o ∷ []) (drop 1 ys)) (append_answer tick_of xs ys o)
+    append_outcome at xs ys (more (at + 9) (xs ++ o ∷ []) (drop 1 ys))
+    (append_answer tick_of xs ys o)
 record_outcome more s at xs ys (Err f) = end_outcome xs ys (Err f)
 
 -- the orders from a byte place on, n at most

@@ -69,7 +69,8 @@ start_of bs at (Some k) (Some p) =
 abbrev pub start_at : List ℕ → ℕ → Result Start ReadFault
 start_at bs at =
     if is_whole (0x48 ∷ 0x47 ∷ []) 14 bs at
-    then start_of bs at (group_kind (slice_index bs (at + 2))) (pace_kind (slice_index bs (at + 12)))
+    then start_of bs at
+    (group_kind (slice_index bs (at + 2))) (pace_kind (slice_index bs (at + 12)))
     else Err (fault at NotWhole)
 
 -- where the next record begins: a record that was read is passed

@@ -16,8 +16,10 @@ use slots::SlotList;
 /// At a fault the orders before it stay in the list.
 pub fn load(bytes: &[u8], list: &mut SlotList<'_, Order>) -> Result<Start, ReadFault>
     ensures answer { result ≡ (load_outcome bytes.now (items list.old) (spare list.old)).answer }
-    ensures items { items list.new ≡ (load_outcome bytes.now (items list.old) (spare list.old)).items }
-    ensures spare { spare list.new ≡ (load_outcome bytes.now (items list.old) (spare list.old)).spare }
+    ensures items { items list.new
+        ≡ (load_outcome bytes.now (items list.old) (spare list.old)).items }
+    ensures spare { spare list.new
+        ≡ (load_outcome bytes.now (items list.old) (spare list.old)).spare }
     ensures extends { Extends list.old list.new }
     ensures rises { IsNonDecreasingBy tick_of (items list.old)
         → IsNonDecreasingBy tick_of (items list.new) }

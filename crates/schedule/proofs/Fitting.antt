@@ -13,7 +13,7 @@ use Rattle.schedule.specs.declared.complaint.Cause.{Cause}
 use Rattle.schedule.specs.Cuts.{line_words}
 use Rattle.schedule.specs.Words.{number_word, group_word, pace_word, order_word, only}
 use Rattle.schedule.specs.Records.{next_word, byte_if, words_after_if, no_words, and_then, has_party, has_leg, start_behind, order_behind, start_in, order_in}
-use Rattle.schedule.specs.Texts.{Reading, reading_end, append_reading, order_reading, orders_from, start_reading, lines_from}
+use Rattle.schedule.specs.Texts.{Reading, reading_end, append_reading, order_reading, order_lines_from, start_reading, start_lines_from}
 use Rattle.schedule.proofs.Numbers.{number_le}
 use Rattle.schedule.proofs.Taking.{due_le}
 
@@ -115,10 +115,10 @@ module _ (s : Start) (n : ℕ) (xs ys : List Order) where
   grown_line ws more g (Ok (Some o)) e = grown_append o (more (xs ++ o ∷ []) (drop 1 ys)) (append_answer tick_of xs ys o) refl (order_fits ws o (sym e)) (g (xs ++ o ∷ []) (drop 1 ys))
   grown_line ws more g (Err x) e = grown_none (Err x) (λ t h. absurd (let z : ◌≡◌ {A = ℕ} 0 1 = cc in omega arith))
 
-orders_grown : (s : Start) (n : ℕ) (ls : List (List ℕ)) (xs ys : List Order) → Grown s xs ys (orders_from s n ls xs ys)
-unfolding orders_from
+orders_grown : (s : Start) (n : ℕ) (ls : List (List ℕ)) (xs ys : List Order) → Grown s xs ys (order_lines_from s n ls xs ys)
+unfolding order_lines_from
 orders_grown s n [] xs ys = grown_none s n xs ys (Ok s) (λ t h. let z : s ≡ t = cc in sym z)
-orders_grown s n (l ∷ ls) xs ys = grown_line s (n + 1) xs ys (line_words l) (orders_from s (n + 1) ls) (λ zs vs. orders_grown s (n + 1) ls zs vs) (order_in (line_words l)) refl
+orders_grown s n (l ∷ ls) xs ys = grown_line s (n + 1) xs ys (line_words l) (order_lines_from s (n + 1) ls) (λ zs vs. orders_grown s (n + 1) ls zs vs) (order_in (line_words l)) refl
 
 -- a reading that can be written, and the slots past its orders as they were
 pub record Sound (slots : List Order) (r : Reading) : Type 0 where
@@ -129,7 +129,7 @@ pub record Sound (slots : List Order) (r : Reading) : Type 0 where
 sound_complaint : (n : ℕ) (ys : List Order) (e : Cause) → Sound ys (reading_end (Err e) n [] ys)
 sound_complaint n ys e = record { left = refl; start = λ s h. absurd (let z : ◌≡◌ {A = ℕ} 0 1 = cc in omega arith); rises = tt }
 
-sound_line : (n : ℕ) (ls : List (List ℕ)) (ws : List (List ℕ)) (ys : List Order) (more : Reading) → Sound ys more → (r : Result (Option Start) Cause) → r ≡ start_in ws → Sound ys (start_reading n more (λ s. orders_from s n ls [] ys) [] ys r)
+sound_line : (n : ℕ) (ls : List (List ℕ)) (ws : List (List ℕ)) (ys : List Order) (more : Reading) → Sound ys more → (r : Result (Option Start) Cause) → r ≡ start_in ws → Sound ys (start_reading n more (λ s. order_lines_from s n ls [] ys) [] ys r)
 sound_line n ls ws ys more h (Ok None) e = h
 sound_line n ls ws ys more h (Ok (Some s)) e =
     let g = orders_grown s n ls [] ys in
@@ -140,7 +140,7 @@ sound_line n ls ws ys more h (Ok (Some s)) e =
     }
 sound_line n ls ws ys more h (Err x) e = sound_complaint n ys x
 
-pub sound : (n : ℕ) (ls : List (List ℕ)) (ys : List Order) → Sound ys (lines_from n ls [] ys)
-unfolding lines_from
+pub sound : (n : ℕ) (ls : List (List ℕ)) (ys : List Order) → Sound ys (start_lines_from n ls [] ys)
+unfolding start_lines_from
 sound n [] ys = sound_complaint (n + 1) ys _
-sound n (l ∷ ls) ys = sound_line (n + 1) ls (line_words l) ys (lines_from (n + 1) ls [] ys) (sound (n + 1) ls ys) (start_in (line_words l)) refl
+sound n (l ∷ ls) ys = sound_line (n + 1) ls (line_words l) ys (start_lines_from (n + 1) ls [] ys) (sound (n + 1) ls ys) (start_in (line_words l)) refl

@@ -27,7 +27,7 @@ use Rattle.schedule.specs.Cuts.{begins_comment, ends_line, is_blank, lines_in, w
 use Rattle.schedule.specs.Words.{is_name, number_word, group_word, pace_word, order_word, only}
 use Rattle.schedule.specs.Records.{next_word, byte_if, words_after_if, no_words, has_party, has_leg, start_behind, order_behind, start_in, order_in}
 use Rattle.schedule.specs.Rendering.{group_name, pace_name, order_name, start_words, number_if, order_words, text_line, text_of, Named, RenderedTextsRead}
-use Rattle.schedule.specs.Texts.{reading_end, append_reading, order_reading, orders_from, start_reading, lines_from}
+use Rattle.schedule.specs.Texts.{reading_end, append_reading, order_reading, order_lines_from, start_reading, start_lines_from}
 use Rattle.schedule.proofs.Pieces.{before_cons, after_cons}
 use Rattle.schedule.proofs.Taking.{one_word, no_word, one_line, no_line}
 
@@ -244,13 +244,13 @@ lines_of t (o ∷ os) h =
     lines_again (order_words o) (flat_map (λ o. text_line (order_words o)) os) (order_clear o h.0) ∙ ap (λ z. join_with_byte 0x20 (order_words o) ∷ z) (lines_of o.tick os h.2)
 
 orders_again : (os : List Order) (s : Start) (n : ℕ) (xs ys : List Order) → InOrder (last_time tick_of xs) os → Named os → length os ≤ length ys →
-    orders_from s n (order_lines os) xs ys ≡ reading_end (Ok s) (n + length os) (xs ++ os) (drop (length os) ys)
-unfolding orders_from
+    order_lines_from s n (order_lines os) xs ys ≡ reading_end (Ok s) (n + length os) (xs ++ os) (drop (length os) ys)
+unfolding order_lines_from
 orders_again [] s n xs ys t z room = rw (add-zero, append-nil)
 orders_again (o ∷ os) s n xs ys t z room =
     let e : order_in (line_words (join_with_byte 0x20 (order_words o))) ≡ Ok (Some o) = ap order_in (line_again (order_words o) (order_clear o t.0)) ∙ order_again o t.0 z.0 z.1 in
     let k = says_ok tick_of xs ys o (omega arith) t.1 in
-    let more = orders_from s (n + 1) (order_lines os) in
+    let more = order_lines_from s (n + 1) (order_lines os) in
     let last : n + 1 + length os ≡ n + length (o ∷ os) = omega arith in
     ap (λ r. order_reading (n + 1) more xs ys r) e
     ∙ ap (λ r. append_reading (n + 1) xs ys (more (xs ++ o ∷ []) (drop 1 ys)) r) (sym k)
@@ -259,7 +259,7 @@ orders_again (o ∷ os) s n xs ys t z room =
     ∙ rw (append_assoc, drop-drop, one-add)
 
 pub rendered_texts : RenderedTextsRead
-unfolding lines_from
+unfolding start_lines_from
 rendered_texts s os slots f t z room =
     let ws = start_words s in
     let ok = start_clear s f in
@@ -267,6 +267,6 @@ rendered_texts s os slots f t z room =
     lines_again ws (flat_map (λ o. text_line (order_words o)) os) ok ∙ ap (λ ls. join_with_byte 0x20 ws ∷ ls) (lines_of 0 os t) in
     let e : start_in (line_words (join_with_byte 0x20 ws)) ≡ Ok (Some s) = ap start_in (line_again ws ok) ∙ start_again s f in
     let ls = order_lines os in
-    ap (λ ls. lines_from 0 ls [] slots) cut
-    ∙ ap (λ r. start_reading 1 (lines_from 1 ls [] slots) (λ s. orders_from s 1 ls [] slots) [] slots r) e
+    ap (λ ls. start_lines_from 0 ls [] slots) cut
+    ∙ ap (λ r. start_reading 1 (start_lines_from 1 ls [] slots) (λ s. order_lines_from s 1 ls [] slots) [] slots r) e
     ∙ orders_again os s 1 [] slots t z room

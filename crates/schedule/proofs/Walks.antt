@@ -7,13 +7,13 @@ use Rattle.schedule.specs.declared.complaint.Cause.TheVariants.{NoStart}
 use Rattle.schedule.specs.declared.complaint.Complaint.{Complaint}
 use Rattle.schedule.specs.Cuts.{line_words}
 use Rattle.schedule.specs.Records.{start_in, order_in}
-use Rattle.schedule.specs.Texts.{Reading, reading_end, order_reading, orders_from, start_reading, lines_from}
+use Rattle.schedule.specs.Texts.{Reading, reading_end, order_reading, order_lines_from, start_reading, start_lines_from}
 use Rattle.schedule.specs.Steps.{at_line}
 
 -- the line l is asked for a start
 pub start_asked : (n n' : ℕ) (ls ls' : List (List ℕ)) (l : List ℕ) (xs ys : List Order) → ls ≡ l ∷ ls' → n' ≡ n + 1 →
-    lines_from n ls xs ys ≡ start_reading n' (lines_from n' ls' xs ys) (λ s. orders_from s n' ls' xs ys) xs ys (start_in (line_words l))
-unfolding lines_from
+    start_lines_from n ls xs ys ≡ start_reading n' (start_lines_from n' ls' xs ys) (λ s. order_lines_from s n' ls' xs ys) xs ys (start_in (line_words l))
+unfolding start_lines_from
 start_asked n n' ls ls' l xs ys e c = rw (e, c)
 
 module _ (n : ℕ) (more : Reading) (orders : Start → Reading) (xs ys : List Order) where
@@ -34,16 +34,16 @@ module _ (n : ℕ) (more : Reading) (orders : Start → Reading) (xs ys : List O
       let z : c ≡ record { line = n; cause = x } = cc in
       sym (ap (λ (c : Complaint). reading_end (Err c.cause) c.line xs ys) z)
 
-pub start_lacking : (n : ℕ) (ls : List (List ℕ)) (xs ys : List Order) → ls ≡ [] → lines_from n ls xs ys ≡ reading_end (Err NoStart) (n + 1) xs ys
-unfolding lines_from
+pub start_lacking : (n : ℕ) (ls : List (List ℕ)) (xs ys : List Order) → ls ≡ [] → start_lines_from n ls xs ys ≡ reading_end (Err NoStart) (n + 1) xs ys
+unfolding start_lines_from
 start_lacking n ls xs ys e = rw e
 
 -- the line l is asked for an order
 pub order_asked : (s : Start) (n n' : ℕ) (ls ls' : List (List ℕ)) (l : List ℕ) (xs ys : List Order) → ls ≡ l ∷ ls' → n' ≡ n + 1 →
-    orders_from s n ls xs ys ≡ order_reading n' (orders_from s n' ls') xs ys (order_in (line_words l))
-unfolding orders_from
+    order_lines_from s n ls xs ys ≡ order_reading n' (order_lines_from s n' ls') xs ys (order_in (line_words l))
+unfolding order_lines_from
 order_asked s n n' ls ls' l xs ys e c = rw (e, c)
 
-pub orders_over : (s : Start) (n : ℕ) (ls : List (List ℕ)) (xs ys : List Order) → ls ≡ [] → orders_from s n ls xs ys ≡ reading_end (Ok s) n xs ys
-unfolding orders_from
+pub orders_over : (s : Start) (n : ℕ) (ls : List (List ℕ)) (xs ys : List Order) → ls ≡ [] → order_lines_from s n ls xs ys ≡ reading_end (Ok s) n xs ys
+unfolding order_lines_from
 orders_over s n ls xs ys e = rw e

@@ -14,20 +14,20 @@ use Rattle.orders.proofs.Loads.{written_files}
 use Rattle.schedule.specs.declared.complaint.Cause.TheVariants.{NoRoom}
 use Rattle.schedule.specs.declared.complaint.Complaint.{Complaint}
 use Rattle.schedule.specs.Cuts.{lines_in}
-use Rattle.schedule.specs.Texts.{Reading, reading_end, orders_from, lines_from, reading_of}
+use Rattle.schedule.specs.Texts.{Reading, reading_end, order_lines_from, start_lines_from, reading_of}
 use Rattle.schedule.specs.Steps.{past_start}
 use Rattle.schedule.specs.Composing.{with_file, compose_answer, output, LoadsAs}
 use Rattle.schedule.proofs.Fitting.{Sound, sound}
 
 -- the start is asked for first, in the whole text
 pub begun : (text rest : List ℕ) (n : ℕ) (slots : List Order) (r : Result Start Complaint) (n' : ℕ) (ls' : List (List ℕ)) → rest ≡ text → n ≡ 0 →
-    ((xs ys : List Order) → lines_from n (lines_in rest) xs ys ≡ past_start r n' ls' xs ys) → reading_of text slots ≡ past_start r n' ls' [] slots
+    ((xs ys : List Order) → start_lines_from n (lines_in rest) xs ys ≡ past_start r n' ls' xs ys) → reading_of text slots ≡ past_start r n' ls' [] slots
 begun text rest n slots r n' ls' t z h =
-    ap (λ b. lines_from 0 (lines_in b) [] slots) (sym t) ∙ ap (λ k. lines_from k (lines_in rest) [] slots) (sym z) ∙ h [] slots
+    ap (λ b. start_lines_from 0 (lines_in b) [] slots) (sym t) ∙ ap (λ k. start_lines_from k (lines_in rest) [] slots) (sym z) ∙ h [] slots
 
 -- and then the orders, into an empty list
-pub went_on : (s : Start) (n : ℕ) (ls : List (List ℕ)) (xs ys slots : List Order) (r : Reading) → xs ≡ [] → ys ≡ slots → orders_from s n ls xs ys ≡ r → orders_from s n ls [] slots ≡ r
-went_on s n ls xs ys slots r e f h = ap (λ zs. orders_from s n ls zs slots) (sym e) ∙ ap (λ zs. orders_from s n ls xs zs) (sym f) ∙ h
+pub went_on : (s : Start) (n : ℕ) (ls : List (List ℕ)) (xs ys slots : List Order) (r : Reading) → xs ≡ [] → ys ≡ slots → order_lines_from s n ls xs ys ≡ r → order_lines_from s n ls [] slots ≡ r
+went_on s n ls xs ys slots r e f h = ap (λ zs. order_lines_from s n ls zs slots) (sym e) ∙ ap (λ zs. order_lines_from s n ls xs zs) (sym f) ∙ h
 
 -- the slots hold the orders, and then what they held
 pub slots_hold : (r : Reading) (a : Reading) (l : SlotList Order) (slots after : List Order) → r ≡ a → a.items ≡ items l → a.spare ≡ spare l → after ≡ l.slots.now → Sound slots r → after ≡ r.items ++ drop (length r.items) slots

@@ -10,8 +10,8 @@ use Rattle.schedule.specs.Notices.{notice_line}
 use Rattle.schedule.specs.Texts.{reading_end, reading_of}
 
 -- a dynamic group, and an order of each kind
-abbrev pub each_kind : List ℕ
-each_kind =
+abbrev pub each_kind_text : List ℕ
+each_kind_text =
     codes "# who comes and goes\n"
     ++ codes "dynamic 3 halving 2 9 cap 64\n"
     ++ codes "\n"
@@ -22,8 +22,8 @@ each_kind =
     ++ codes "10 crash 0\n"
     ++ codes "20 wait"
 
-abbrev pub each_order : List Order
-each_order =
+abbrev pub each_kind_orders : List Order
+each_kind_orders =
     record { kind = Join; party = 1; leg = 0; tick = 0 }
     ∷ record { kind = Deliver; party = 1; leg = 3; tick = 2 }
     ∷ record { kind = Lose; party = 2; leg = 1; tick = 2 }
@@ -48,10 +48,10 @@ closed_start = codes "closed 1 two-phase 1 10 cap 64\n"
 
 pub record TextsByHand : Type 0 where
   pub each_kind_read :
-      (a b c d e f : Order) → reading_of each_kind (a ∷ b ∷ c ∷ d ∷ e ∷ f ∷ [])
+      (a b c d e f : Order) → reading_of each_kind_text (a ∷ b ∷ c ∷ d ∷ e ∷ f ∷ [])
       ≡ reading_end
       (Ok record { kind = Dynamic; parties = 3; tmin = 2; tmax = 9; pace = Halving; cap = 64 })
-      9 each_order []
+      9 each_kind_orders []
   pub closed_read :
       reading_of closed_start []
       ≡ reading_end

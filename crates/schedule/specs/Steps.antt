@@ -4,7 +4,7 @@ use Rattle.orders.specs.declared.order.Order.{Order}
 use Rattle.orders.specs.declared.start.Start.{Start}
 use Rattle.schedule.specs.declared.complaint.Cause.{Cause}
 use Rattle.schedule.specs.declared.complaint.Complaint.{Complaint}
-use Rattle.schedule.specs.Texts.{Reading, reading_end, orders_from}
+use Rattle.schedule.specs.Texts.{Reading, reading_end, order_lines_from}
 
 -- a complaint about a word of line n
 module _ {X : Type 0} where
@@ -15,7 +15,7 @@ module _ {X : Type 0} where
 -- how the reading goes on from line n, once the start was asked for
 abbrev pub past_start :
     Result Start Complaint → ℕ → List (List ℕ) → List Order → List Order → Reading
-past_start (Ok s) n ls xs ys = orders_from s n ls xs ys
+past_start (Ok s) n ls xs ys = order_lines_from s n ls xs ys
 past_start (Err c) n ls xs ys = reading_end (Err c.cause) c.line xs ys
 
 -- once a line with an order was

@@ -39,25 +39,26 @@ order_reading n more xs ys (Ok (Some o)) =
 order_reading n more xs ys (Err e) = reading_end (Err e) n xs ys
 
 -- the lines behind the start, of which the last one before them is line n
-unfoldable pub orders_from : Start → ℕ → List (List ℕ) → List Order → List Order → Reading
-orders_from s n [] xs ys = reading_end (Ok s) n xs ys
-orders_from s n (l ∷ ls) xs ys =
-    order_reading (n + 1) (orders_from s (n + 1) ls) xs ys (order_in (line_words l))
+unfoldable pub order_lines_from : Start → ℕ → List (List ℕ) → List Order → List Order → Reading
+order_lines_from s n [] xs ys = reading_end (Ok s) n xs ys
+order_lines_from s n (l ∷ ls) xs ys =
+    order_reading (n + 1) (order_lines_from s (n + 1) ls) xs ys (order_in (line_words l))
 
 -- what line n holds, as long as no start was read
 abbrev pub start_reading :
-    ℕ → Reading → (Start → Reading) → List Order → List Order → Result (Option Start) Cause → Reading
+    ℕ → Reading → (Start → Reading) → List Order → List Order → Result (Option Start) Cause
+    → Reading
 start_reading n more orders xs ys (Ok None) = more
 start_reading n more orders xs ys (Ok (Some s)) = orders s
 start_reading n more orders xs ys (Err e) = reading_end (Err e) n xs ys
 
 -- the lines behind line n, no start having been read
-unfoldable pub lines_from : ℕ → List (List ℕ) → List Order → List Order → Reading
-lines_from n [] xs ys = reading_end (Err NoStart) (n + 1) xs ys
-lines_from n (l ∷ ls) xs ys =
-    start_reading (n + 1) (lines_from (n + 1) ls xs ys) (λ s. orders_from s (n + 1) ls xs ys) xs ys
-    (start_in (line_words l))
+unfoldable pub start_lines_from : ℕ → List (List ℕ) → List Order → List Order → Reading
+start_lines_from n [] xs ys = reading_end (Err NoStart) (n + 1) xs ys
+start_lines_from n (l ∷ ls) xs ys =
+    start_reading (n + 1) (start_lines_from (n + 1) ls xs ys)
+    (λ s. order_lines_from s (n + 1) ls xs ys) xs ys (start_in (line_words l))
 
 -- the whole text, read into these slots
 abbrev pub reading_of : List ℕ → List Order → Reading
-reading_of text slots = lines_from 0 (lines_in text) [] slots
+reading_of text slots = start_lines_from 0 (lines_in text) [] slots

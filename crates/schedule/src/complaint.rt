@@ -1,6 +1,6 @@
 // What can be wrong with a text.
 ghost use Rattle.std.specs.Prelude.{◌≡◌};
-ghost use Rattle.schedule.specs.Causes.{cause_number, refusal_cause};
+ghost use Rattle.schedule.specs.Causes.{complaint_number, refusal_cause};
 
 use slots::refusal::Refusal;
 
@@ -30,7 +30,7 @@ pub enum Cause {
 impl Cause {
     /// The number of the question that was answered no.
     pub fn number(self) -> u8
-        ensures { result ≡ cause_number self }
+        ensures { result ≡ complaint_number self }
     {
         match self {
             Cause::MissingWord | Cause::WordTooMany | Cause::NoStart => 15,
@@ -44,7 +44,7 @@ impl Cause {
 /// The first thing that is wrong with a text.
 #[derive(Clone, Copy, Debug, PartialEq, Eq)]
 pub struct Complaint {
-    /// The line, counted from 1. What the text lacks as a whole is told of the line behind its last.
+    /// Counted from 1. What the text lacks as a whole is told of the line behind its last.
     pub line: usize,
     pub cause: Cause,
 }

@@ -12,15 +12,17 @@ use crate::write::write;
 use orders::order::Order;
 use slots::SlotList;
 
-/// Reads a whole text, its orders into `order_slots`, and only then writes the order file into `out`.
-/// Answers how many bytes the file has; later bytes keep what they held.
+/// Reads a whole text, its orders into `order_slots`, and only then writes the order file into
+/// `out`. Answers how many bytes the file has; later bytes keep what they held.
 pub fn compose(text: &[u8], order_slots: &mut [Order], out: &mut [u8]) -> Result<usize, Complaint>
-    ensures answer { result ≡ compose_answer (reading_of text.now order_slots.old) (length out.old) }
+    ensures answer { result
+        ≡ compose_answer (reading_of text.now order_slots.old) (length out.old) }
     ensures output { out.new ≡ output (reading_of text.now order_slots.old) out.old }
     ensures slots { order_slots.new ≡ (reading_of text.now order_slots.old).items
         ++ drop (length (reading_of text.now order_slots.old).items) order_slots.old }
     ensures within { IfOk result (λ size. size ≤ length out.new) }
-    ensures loads { IfOk result (λ size. LoadsAs (reading_of text.now order_slots.old) (take size out.new)) }
+    ensures loads { IfOk result
+        (λ size. LoadsAs (reading_of text.now order_slots.old) (take size out.new)) }
     ensures reads_back { RenderedTextsRead }
     ensures by_hand { TextsByHand }
 {

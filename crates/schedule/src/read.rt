@@ -3,7 +3,7 @@ ghost use Rattle.std.specs.Prelude.{◌≡◌, List};
 ghost use Rattle.slots.specs.Slots.{items, spare, Extends};
 ghost use Rattle.schedule.specs.Cuts.{lines_in, line_words};
 ghost use Rattle.schedule.specs.Records.{start_in, order_in};
-ghost use Rattle.schedule.specs.Texts.{Reading, lines_from, orders_from, order_reading};
+ghost use Rattle.schedule.specs.Texts.{Reading, start_lines_from, order_lines_from, order_reading};
 ghost use Rattle.schedule.specs.Steps.{at_line, past_start, past_line, past_orders};
 
 use crate::complaint::{Cause, Complaint};
@@ -15,7 +15,8 @@ use slots::SlotList;
 
 // The first line with words is the start.
 pub(crate) fn read_start(lines: &mut Lines<'_>) -> Result<Start, Complaint>
-    ensures { (xs ys : List Order) → lines_from lines.old.number (lines_in lines.old.rest.now) xs ys
+    ensures { (xs ys : List Order)
+        → start_lines_from lines.old.number (lines_in lines.old.rest.now) xs ys
         ≡ past_start result lines.new.number (lines_in lines.new.rest.now) xs ys }
 {
     while let Some(text) = lines.next() {
@@ -42,7 +43,8 @@ pub(crate) fn read_orders(
     list: &mut SlotList<'_, Order>,
 ) -> Result<(), Complaint>
     ensures read { (s : Start)
-        → orders_from s lines.old.number (lines_in lines.old.rest.now) (items list.old) (spare list.old)
+        → order_lines_from s lines.old.number (lines_in lines.old.rest.now)
+        (items list.old) (spare list.old)
         ≡ past_orders s result lines.new.number (items list.new) (spare list.new) }
     ensures extends { Extends list.old list.new }
 {

@@ -57,7 +57,8 @@ impl<'a> Words<'a> {
     #[tactic(auto, unfolding(crate::specs::Records::byte_if))]
     pub(crate) fn byte_if(&mut self, wanted: bool) -> Result<u8, Cause>
         ensures answer { result ≡ byte_if wanted (words_in self.old.rest.now) }
-        ensures left { words_in self.new.rest.now ≡ words_after_if wanted (words_in self.old.rest.now) }
+        ensures left { words_in self.new.rest.now
+            ≡ words_after_if wanted (words_in self.old.rest.now) }
     {
         if wanted { self.byte() } else { Ok(0) }
     }

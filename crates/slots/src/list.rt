@@ -76,10 +76,11 @@ impl<'a, T: Timed + Copy> SlotList<'a, T> {
         self.as_slice().last().map_or(0, T::tick)
     }
 
-    /// Adds a record at the end. `NoSlot` where every slot is taken, and then `Earlier` where its tick is
-    /// before the last record's; a refused append changes nothing.
+    /// Adds a record at the end. `NoSlot` where every slot is taken, and then `Earlier` where its
+    /// tick is before the last record's; a refused append changes nothing.
     pub fn append(&mut self, item: T) -> Result<(), Refusal>
-        ensures answer { result ≡ append_answer T.Timed.time (items self.old) (spare self.old) item }
+        ensures answer { result
+            ≡ append_answer T.Timed.time (items self.old) (spare self.old) item }
         ensures after { MatchResult result
             (λ _. Appends self.old self.new (item ∷ [])) (λ _. self.new ≡ self.old) }
         ensures extends { Extends self.old self.new }

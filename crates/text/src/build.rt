@@ -8,8 +8,8 @@ use super::line_bytes::{LineBytes, SIZE};
 use arrayvec::ArrayVec;
 use std::marker::Model;
 
-/// A line that grows by texts and numbers, each of which is added whole or not at all. It has room for
-/// 128 bytes. A contract sees its text.
+/// A line that grows by texts and numbers, each of which is added whole or not at all. It has room
+/// for 128 bytes. A contract sees its text.
 #[derive(Drop)]
 pub struct Line {
     text: ArrayVec<u8, SIZE>,

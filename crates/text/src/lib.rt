@@ -1,4 +1,4 @@
-// Text in bytes: one write into lent bytes, a number's decimal digits, and one line under construction.
+// Text in bytes: one write into lent bytes, a number's digits, and one line under construction.
 #![tactic(auto)]
 
 mod build;
