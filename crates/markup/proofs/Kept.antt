@@ -2,7 +2,7 @@
 use Rattle.std.proofs.Common.{◌≡◌, ℕ, ◌+◌, ◌-◌, ◌≤◌, Bool, true, false, cond, leb, ◌++◌, length, sym, refl, ap, ◌∙◌, subst, ⊎_elim, arith, length-append, le-leb, leb-false, leb-true}
 use borrow.Author.Tests.{lt-leb}
 use Rattle.std.proofs.lemmas.Bool.{cases_Bool}
-use Rattle.markup.specs.Forests.{Spelling, Forest, none, element, render, one, count, Each}
+use Rattle.markup.specs.Forests.{Spelling, Forest, none, element, render, count, Each}
 use Rattle.markup.specs.Cut.{size, cost, all_fits, fitting_part}
 
 -- a choice has what both have

@@ -1,5 +1,5 @@
 -- A line under construction, by its text.
-use Rattle.std.specs.Prelude.{◌≡◌, ℕ, ◌+◌, ◌-◌, ◌≤◌, if◌then◌else◌, List, ◌++◌, length, take, drop, replicate, nat_le}
+use Rattle.std.specs.Prelude.{◌≡◌, ℕ, ◌+◌, ◌-◌, if◌then◌else◌, List, ◌++◌, length, replicate, nat_le}
 use Rattle.text.specs.declared.line_bytes.LineBytes.{LineBytes}
 
 -- the text with more after it, or as it was where that passes 128 bytes
