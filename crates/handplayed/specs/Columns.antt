@@ -5,7 +5,7 @@ use Rattle.pace.specs.Limits.{limits_no}
 use Rattle.pace.specs.Cap.{count_no}
 use Rattle.pace.specs.Listed.{waits_no}
 use Rattle.slots.specs.declared.refusal.Refusal.{Refusal as ListRefusal}
-use Rattle.slots.specs.Refusals.{number as list_number}
+use Rattle.slots.specs.Refusals.{slot_refusal_number as list_number}
 use Rattle.slots.specs.Slots.{append_answer, first_place}
 use Rattle.protocol.specs.declared.call.Call.{Call}
 use Rattle.protocol.specs.declared.happening.Happening.{Happening}
@@ -28,7 +28,7 @@ use Rattle.orders.specs.declared.order.Order.{Order}
 use Rattle.orders.specs.declared.order.OrderKind.TheVariants.{Wait}
 use Rattle.orders.specs.declared.start.Start.{Start}
 use Rattle.orders.specs.Faults.{fault_number}
-use Rattle.orders.specs.Loading.{loaded}
+use Rattle.orders.specs.Loading.{load_outcome}
 use Rattle.orders.specs.Writing.{bytes_of_file}
 use Rattle.player.specs.declared.notices.PlayedFile.{PlayedFile}
 use Rattle.player.specs.declared.notices.RefusedFile.{RefusedFile}
@@ -169,7 +169,7 @@ outcome (export g cs room) =
 outcome (orders g os) =
     of_orders (of_pace g.rules.plan.kind g.rules.meaning) g.rules.plan.n
     (playing g.rules 0 os g.before)
-outcome (reading bs room) = let x = loaded bs [] (replicate room no_order) in of_reading x.answer x.items
+outcome (reading bs room) = let x = load_outcome bs [] (replicate room no_order) in of_reading x.answer x.items
 outcome (writing s os) = record nothing { output = bytes_of_file s os }
 outcome (notice x) = record nothing { output = notice_lines x }
 outcome (append ticks t room) = answers_with (append_number (append_answer (λ tick. tick) ticks (replicate room 0) t))

@@ -13,7 +13,7 @@ use Rattle.orders.specs.declared.fault.ReadFault.{ReadFault}
 use Rattle.orders.specs.declared.order.Order.{Order}
 use Rattle.orders.specs.declared.start.Start.{Start}
 use Rattle.orders.specs.Faults.{fault_number}
-use Rattle.orders.specs.Loading.{loaded}
+use Rattle.orders.specs.Loading.{load_outcome}
 use Rattle.graphml.specs.declared.answer.Exported.{Exported}
 use Rattle.graphml.specs.declared.answer.Refusal.{Refusal}
 use Rattle.graphml.specs.Answer.{refusal_number, exported}
@@ -89,8 +89,8 @@ Read (Err f) orders hs hs' out out' bytes lines = NotPlayed f.byte (fault_number
 
 -- a file, the slots for its orders and for the log, and the output, before and after; and what is printed
 pub record FileOutcome (file : List ℕ) (os os' : List Order) (hs hs' : List Happening) (out out' : List ℕ) (bytes : ℕ) (lines : List ℕ) : Type 0 where
-  pub orders : os' ≡ (loaded file [] os).items ++ (loaded file [] os).spare
-  pub came : Read (loaded file [] os).answer (loaded file [] os).items hs hs' out out' bytes lines
+  pub orders : os' ≡ (load_outcome file [] os).items ++ (load_outcome file [] os).spare
+  pub came : Read (load_outcome file [] os).answer (load_outcome file [] os).items hs hs' out out' bytes lines
 
 -- the same, the lines being answered as 128 bytes, the rest 0, with their length
 pub record FileRun (file : List ℕ) (os os' : List Order) (hs hs' : List Happening) (out out' : List ℕ) (bytes : ℕ) (notices : LineBytes) : Type 0 where

@@ -1,6 +1,6 @@
 // The group that a file asks for.
 ghost use Rattle.std.specs.Prelude.{◌≡◌, ◌↔◌, IfOk, IfErr, IsOk};
-ghost use Rattle.pace.specs.Cap.{capped};
+ghost use Rattle.pace.specs.Cap.{capped_meaning};
 ghost use Rattle.protocol.specs.State.{new_table};
 ghost use Rattle.player.specs.Faults.{TellsOfNoRecord};
 ghost use Rattle.player.specs.Program.{cap_and_plan_no};
@@ -19,7 +19,7 @@ pub fn open<P: Pace + Drop>(pace: P, start: Start) -> Result<Group<Cap<P>>, File
     ensures pace { IfOk result (λ g. (g.pace.pace ≡ pace) × (g.pace.m ≡ start.cap)) }
     ensures plan { IfOk result (λ g. (g.plan.kind ≡ start.kind) × (g.plan.n ≡ start.parties)) }
     ensures table { IfOk result (λ g. g.table
-        ≡ new_table (capped start.cap (P.means pace)).tmax g.plan.kind) }
+        ≡ new_table (capped_meaning start.cap (P.means pace)).tmax g.plan.kind) }
 {
     let mut capped = Cap::new(pace);
     capped.set(start.cap as u32)?;

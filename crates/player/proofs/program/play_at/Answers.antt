@@ -1,7 +1,7 @@
 use Rattle.std.proofs.Common.{◌≡◌, ℕ, List, Err, Result, sym, refl, ap, ◌∙◌, subst, arith, rules}
 use Rattle.std.proofs.lemmas.Result.{err_from_is_err_and}
 use Rattle.pace.specs.Meaning.{Meaning}
-use Rattle.pace.specs.Cap.{capped}
+use Rattle.pace.specs.Cap.{capped_meaning}
 use Rattle.pace.specs.laws.Cap.{capped_lawful}
 use Rattle.slots.specs.Slots.{items}
 use Rattle.protocol.specs.declared.happening.Happening.{Happening}
@@ -27,7 +27,7 @@ returns-in_err-group-clause-run g c =
 -- what came of it, once the run was exported
 came : (g : given.Over) (c : After-export g) (hs' : List Happening) (r : Result Exported Refusal) (bytes : ℕ) (lines : List ℕ) → hs' ≡ c.play-played.new.log.slots.now →
     c.export.result ≡ r → Prints r (stop_told c.play-played.result) bytes lines →
-    SetUp (cap_and_plan_no c.args.start) (capped c.args.start.cap (g.P.Pace.means c.args.pace)) c.args.start (items c.args.orders.now) c.args.log_slots.now hs' c.args.out.now c.export.new.out bytes lines
+    SetUp (cap_and_plan_no c.args.start) (capped_meaning c.args.start.cap (g.P.Pace.means c.args.pace)) c.args.start (items c.args.orders.now) c.args.log_slots.now hs' c.args.out.now c.export.new.out bytes lines
 came g c hs' r bytes lines back was prints =
     let means = g.P.Pace.means in
     let start = c.args.start in
@@ -35,10 +35,10 @@ came g c hs' r bytes lines back was prints =
     let o = c.in_ok-group.ensures in
     let p = c.play-played.ensures in
     let e = c.export.ensures in
-    let m : Meaning = capped group.pace.m (means group.pace.pace) in
+    let m : Meaning = capped_meaning group.pace.m (means group.pace.pace) in
     let sound = capped_lawful group.pace.m (means group.pace.pace) group.pace.some (g.met.P.Pace.lawful group.pace.pace) in
     let x = c.play-played.new in
-    let same : m ≡ capped start.cap (means c.args.pace) = ap (λ n. capped n (means group.pace.pace)) o.pace.1 ∙ ap (λ q. capped start.cap (means q)) o.pace.0 in
+    let same : m ≡ capped_meaning start.cap (means c.args.pace) = ap (λ n. capped_meaning n (means group.pace.pace)) o.pace.1 ∙ ap (λ q. capped_meaning start.cap (means q)) o.pace.0 in
     set_up start _ m group.plan _ _ hs' _ _ bytes lines (o.granted.0 refl) same o.plan.0 o.plan.1
     (played (items c.args.orders.now) c.args.log_slots.now group x.group c.new-log.result x.log c.play-played.result sound
     (o.table ∙ ap (λ (q : Meaning). new_table q.tmax group.plan.kind) (sym same)) c.new-log.ensures.empty c.new-log.ensures.spare p
