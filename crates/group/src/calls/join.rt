@@ -6,7 +6,9 @@ ghost use Rattle.protocol.specs.calls.Join.{after_join, join_number};
 ghost use Rattle.protocol.specs.Views.{state_of, Ready};
 ghost use Rattle.protocol.specs.declared.call.Call.TheVariants.{Join};
 ghost use Rattle.group.specs.Does.{Does};
+ghost use Rattle.protocol.specs.Rules.{trip};
 
+use crate::dues::trip_of;
 use crate::group::Group;
 use crate::logging::tell;
 use crate::questions::ask_log;
@@ -27,7 +29,7 @@ impl<P: Pace> Group<P> {
         ensures { Does (Join party) self.old self.new log.old log.new result }
     {
         let member = ask_join(&self.plan, &self.table, log, party)?;
-        let trip = self.pace.limits().tmin();
+        let trip = trip_of(&self.pace);
         self.quiet_until = 0;
         do_join(&mut self.table, log, member, trip);
         Ok(())

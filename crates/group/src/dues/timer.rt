@@ -2,11 +2,12 @@
 ghost use Rattle.std.specs.Prelude.{◌≡◌, ℕ, ◌-◌, ◌<◌, ◌≤◌, true, false, length, slice_index_or};
 ghost use Rattle.protocol.specs.calls.Tick.{due_on, calls_in};
 ghost use Rattle.protocol.specs.Party.{nobody};
+ghost use Rattle.protocol.specs.Rules.{trip};
 ghost use Rattle.protocol.specs.Quiet.{timer_rests, Rests};
 ghost use Rattle.protocol.specs.declared.party.Stage.TheVariants.{Joining};
 ghost use Rattle.group.specs.Patience.{DoesFor};
 
-use crate::dues::patience::patience_for;
+use crate::dues::patience::{patience_for, trip_of};
 use pace::Pace;
 use pace::limits::Limits;
 use protocol::party::{Beat, Own, Party, Stage, Standing};
@@ -18,8 +19,10 @@ use protocol::table::Table;
 pub(crate) struct Timer {
     pub(crate) clock: u32,
     pub(crate) patience: u32,
+    pub(crate) trip: u32,
     pub(crate) limits: Limits,
     ghost some: { 0 < patience },
+    ghost brief: { trip ≤ 1000000 },
 }
 
 impl Timer {
@@ -27,11 +30,13 @@ impl Timer {
     pub(crate) fn at<P: Pace>(pace: &P, plan: &Plan, table: &Table) -> Timer
         ensures clock { result.clock ≡ table.now.clock }
         ensures patience { DoesFor (P.means pace.now) plan.now table.now result.patience }
+        ensures trip { result.trip ≡ trip (P.means pace.now) }
         ensures tmin { result.limits.tmin ≡ (P.means pace.now).tmin }
     {
         Timer {
             clock: table.clock,
             patience: patience_for(pace, plan, table),
+            trip: trip_of(pace),
             limits: pace.limits(),
         }
     }

@@ -8,6 +8,7 @@ ghost use Rattle.group.specs.Sane.{Sane};
 ghost use Rattle.group.specs.Views.{Acted};
 
 use crate::calls::tick::passes::{count_misses, send_all};
+use crate::dues::trip_of;
 use crate::logging::tell;
 use pace::Pace;
 use protocol::happening::{Happening, HappeningKind};
@@ -49,7 +50,7 @@ fn settle<P: Pace>(pace: &P, plan: &Plan, table: &mut Table, log: &mut SlotList<
     } else {
         table.length = next_length(pace, plan, table);
         table.start = clock;
-        send_all(plan, table, log, clock + pace.limits().tmin());
+        send_all(plan, table, log, clock + trip_of(pace));
     }
 }
 
