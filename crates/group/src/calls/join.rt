@@ -65,7 +65,8 @@ fn do_join(table: &mut Table, log: &mut SlotList<'_, Happening>, member: Member,
     requires early { table.old.clock ≤ 4000000000 }
     requires brief { trip ≤ 1000000 }
     ensures extends { Extends log.old log.new }
-    ensures after { state_of table.new log.new ≡ after_join trip member.number (state_of table.old log.old) }
+    ensures after { state_of table.new log.new
+        ≡ after_join trip member.number (state_of table.old log.old) }
 {
     let clock = table.clock;
     let sending_place = log.len() + 1;

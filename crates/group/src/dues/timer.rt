@@ -6,6 +6,7 @@ ghost use Rattle.protocol.specs.Rules.{trip};
 ghost use Rattle.protocol.specs.Quiet.{timer_rests, Rests};
 ghost use Rattle.protocol.specs.declared.party.Stage.TheVariants.{Joining};
 ghost use Rattle.group.specs.Patience.{DoesFor};
+ghost use Rattle.group.specs.Until.{Until};
 
 use crate::dues::patience::{patience_for, trip_of};
 use pace::Pace;
@@ -43,7 +44,8 @@ impl Timer {
 
     // The next joining beat of a party: after each positive multiple of tmin ticks of silence.
     fn call_due(&self, since: u32) -> u32
-        ensures { (c : ℕ) → self.now.clock ≤ c → c < result → calls_in Joining self.now.limits.tmin (c - since) ≡ false }
+        ensures { Until self.now.clock result
+            (λ c. calls_in Joining self.now.limits.tmin (c - since) ≡ false) }
     {
         let silent = self.clock.saturating_sub(since);
         let past = silent % self.limits.tmin();
@@ -56,7 +58,8 @@ impl Timer {
 
     // The end of a party's patience, or its next joining beat.
     fn own_due(&self, own: Own) -> u32
-        ensures { (c : ℕ) → self.now.clock ≤ c → c < result → timer_rests own.standing self.now.patience self.now.limits.tmin (c - own.since) ≡ true }
+        ensures { Until self.now.clock result (λ c. timer_rests own.standing
+            self.now.patience self.now.limits.tmin (c - own.since) ≡ true) }
     {
         let end = own.since.saturating_add(self.patience);
         match own.standing {
@@ -68,7 +71,8 @@ impl Timer {
 
     // What is due first of a party: a beat on one of its legs, or its timer.
     fn party_due(&self, party: &Party) -> u32
-        ensures { (c : ℕ) → self.now.clock ≤ c → c < result → Rests self.now.patience self.now.limits.tmin c party.now }
+        ensures { Until self.now.clock result
+            (λ c. Rests self.now.patience self.now.limits.tmin c party.now) }
     {
         let legs = party.legs;
         beat_due(legs.out)
@@ -79,7 +83,8 @@ impl Timer {
 
     // What is due first of all of them.
     pub(crate) fn parties_due(&self, parties: &[Party]) -> u32
-        ensures { (c : ℕ) → self.now.clock ≤ c → c < result → (k : ℕ) → k < length parties.now → Rests self.now.patience self.now.limits.tmin c (slice_index_or parties.now k nobody) }
+        ensures { Until self.now.clock result (λ c. (k : ℕ) → k < length parties.now →
+            Rests self.now.patience self.now.limits.tmin c (slice_index_or parties.now k nobody)) }
     {
         let mut due = u32::MAX;
         for party in parties {
