@@ -27,7 +27,7 @@ fn lie_within(waits: &[u32], limits: Limits) -> bool
 }
 
 impl Listed {
-    // Starts as the one wait tmax.
+    // Made with tmax as its only wait.
     pub fn new(limits: Limits) -> Listed
         ensures limits { result.limits ≡ limits }
         ensures waits { result.waits ≡ limits.tmax ∷ [] }

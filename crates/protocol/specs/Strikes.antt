@@ -1,4 +1,4 @@
--- A struck party is struck for good.
+-- Striking is final.
 use Rattle.std.specs.Prelude.{◌≡◌, ℕ, ◌≤◌, List, ◌++◌, None}
 use Rattle.pace.specs.Meaning.{Meaning, Lawful}
 use Rattle.protocol.specs.declared.party.Roll.TheVariants.{Struck}
