@@ -6,56 +6,78 @@
 
 In a fenced block marked `console` a line `$ COMMAND` is run, and the lines below it are what it
 prints, errors too; a line `...` stands for any number of lines. A block marked with two words, as
-`text my.txt`, is the file of that name, for the commands further down the page. Each page has a
-folder of its own to run in, where the repository's files are seen and none of them is changed.
-The programs have to be in target/bin (tools/build.sh).
+`text my.txt`, is the file of that name, for the commands further down the page. Below a line
+`<!-- printed by: COMMAND -->`, which readers don't see, stands what that command prints, up to the
+next empty line. Each page has a folder of its own to run in, where the repository's files are seen
+and none of them is changed. The programs have to be in target/bin (tools/build.sh).
 """
 
 import difflib
 import os
 import pathlib
+import re
 import subprocess
 import sys
 import tempfile
+from dataclasses import dataclass
 
 TOP = pathlib.Path(__file__).resolve().parent.parent
 SECONDS = 120
 FENCE = "```"
 PROMPT = "$ "
 GAP = "..."
+PRINTED_BY = re.compile(r"<!-- printed by: (.*) -->")
+
+
+@dataclass
+class File:
+    name: str
+    text: str
+
+
+@dataclass
+class Command:
+    text: str
+    start: int          # its output in the page: the first line, and the one behind the last
+    end: int
 
 
 def pages():
     return [TOP / "README.md", TOP / "examples" / "README.md", *sorted((TOP / "docs").glob("*.md"))]
 
 
-def blocks(lines):
-    """Of each fenced block its words, and the numbers of its first line and of its last fence."""
-    opened = None
-    for number, line in enumerate(lines):
-        if not line.startswith(FENCE):
-            continue
-        if opened is None:
-            opened = number
-        else:
-            yield lines[opened].strip("`\n").split(), opened + 1, number
-            opened = None
-
-
-def commands(lines, first, end):
-    """Of each command in a console block its text, and the first and last line of its output."""
+def commands_in(lines, first, end):
     starts = [n for n in range(first, end) if lines[n].startswith(PROMPT)]
     for start, following in zip(starts, starts[1:] + [end]):
         last = start
         while lines[last].endswith("\\"):
             last += 1
-        text = "\n".join(lines[start:last + 1]).removeprefix(PROMPT)
-        yield text, last + 1, following
+        yield Command("\n".join(lines[start:last + 1]).removeprefix(PROMPT), last + 1, following)
+
+
+def steps(lines):
+    """The files and the commands of a page, in its order."""
+    opened = None
+    for number, line in enumerate(lines):
+        told = PRINTED_BY.fullmatch(line)
+        if told:
+            yield Command(told[1], number + 1, lines.index("", number))
+        if not line.startswith(FENCE):
+            continue
+        if opened is None:
+            opened = number
+            continue
+        words = lines[opened].strip("`").split()
+        if len(words) == 2:
+            yield File(words[1], "\n".join(lines[opened + 1:number]) + "\n")
+        if words == ["console"]:
+            yield from commands_in(lines, opened + 1, number)
+        opened = None
 
 
 def printed(command, folder):
     ran = subprocess.run(["bash", "-c", command], cwd=folder, stdin=subprocess.DEVNULL,
-                         stdout=subprocess.PIPE, stderr=subprocess.STDOUT, timeout=SECONDS)
+                         stdout=subprocess.PIPE, stderr=subprocess.STDOUT, timeout=SECONDS, check=False)
     return ran.stdout.decode(errors="replace").splitlines()
 
 
@@ -64,9 +86,8 @@ def matches(wanted, got):
     if GAP not in wanted:
         return wanted == got
     at = wanted.index(GAP)
-    rest = wanted[at + 1:]
     return wanted[:at] == got[:at] and any(
-        matches(rest, got[k:]) for k in range(at, len(got) + 1))
+        matches(wanted[at + 1:], got[k:]) for k in range(at, len(got) + 1))
 
 
 def make_folder(folder):
@@ -75,49 +96,51 @@ def make_folder(folder):
             os.symlink(entry, folder / entry.name)
 
 
-def run_page(page, update):
-    """The number of commands run, and the lines of those that print something else."""
-    lines = page.read_text().splitlines()
-    name = page.relative_to(TOP)
-    count, wrong, changes = 0, [], []
+def run_page(lines):
+    """Each command of a page with what it prints."""
     with tempfile.TemporaryDirectory() as scratch:
         folder = pathlib.Path(scratch)
         make_folder(folder)
-        for words, first, end in blocks(lines):
-            if len(words) == 2:
-                (folder / words[1]).write_text("\n".join(lines[first:end]) + "\n")
-            if words[:1] != ["console"]:
-                continue
-            for text, start, stop in commands(lines, first, end):
-                got = printed(text, folder)
-                count += 1
-                if not matches(lines[start:stop], got):
-                    wrong += [f"{name}:{start}: {text}",
-                              *difflib.unified_diff(lines[start:stop], got, "page", "printed", lineterm="")]
-                    changes.append((start, stop, got))
-    if update:
-        for start, stop, got in reversed(changes):
-            lines[start:stop] = got
+        for step in steps(lines):
+            match step:
+                case File(name, text):
+                    (folder / name).write_text(text)
+                case Command(text):
+                    yield step, printed(text, folder)
+
+
+def check_page(page, update):
+    """The number of commands run, and the lines that tell of those that print something else."""
+    lines = page.read_text().splitlines()
+    ran = list(run_page(lines))
+    wrong = [(c, got) for c, got in ran if not matches(lines[c.start:c.end], got)]
+    told = []
+    for c, got in wrong:
+        told.append(f"{page.relative_to(TOP)}:{c.start}: {c.text}")
+        told += difflib.unified_diff(lines[c.start:c.end], got, "page", "printed", lineterm="")
+    if update and wrong:
+        for c, got in reversed(wrong):
+            lines[c.start:c.end] = got
         page.write_text("\n".join(lines) + "\n")
-    return count, wrong
+    return len(ran), told
 
 
-def main():
-    names = sys.argv[1:]
-    update = "--update" in names
-    chosen = [TOP / name for name in names if name != "--update"] or pages()
-    count, wrong = 0, []
+def main(words):
+    update = "--update" in words
+    chosen = [TOP / word for word in words if word != "--update"] or pages()
+    count, told = 0, []
     for page in chosen:
-        ran, differing = run_page(page, update)
+        ran, wrong = check_page(page, update)
         count += ran
-        wrong += differing
-    print(*wrong, sep="\n")
-    if wrong and not update:
-        print("examples of the pages that print something else, as told above")
+        told += wrong
+    for line in told:
+        print(line)
+    if told and not update:
+        print("these examples print something else than their page says")
         return 1
     print(f"{count} commands of the pages print what the pages say")
-    return 0 if count else 1
+    return 0
 
 
 if __name__ == "__main__":
-    sys.exit(main())
+    sys.exit(main(sys.argv[1:]))
