@@ -1,5 +1,6 @@
 #!/usr/bin/env python3
-"""Runs the examples of the pages, and compares what they print with what the pages say.
+"""Runs the examples of the pages, compares what they print with what the pages say, and follows
+the links from page to page.
 
     python3 tests/docs_examples.py [PAGE ..]            all pages unless some are named
     python3 tests/docs_examples.py --update [PAGE ..]   writes what is printed into the pages
@@ -27,6 +28,7 @@ FENCE = "```"
 PROMPT = "$ "
 GAP = "..."
 PRINTED_BY = re.compile(r"<!-- printed by: (.*) -->")
+LINK = re.compile(r"\]\(([^):#]*)(?:#([^)]*))?\)")
 
 
 @dataclass
@@ -109,6 +111,20 @@ def run_page(lines):
                     yield step, printed(text, folder)
 
 
+def headings(page):
+    """The names by which links lead to a page's headings."""
+    titles = [line.lstrip("#").strip() for line in page.read_text().splitlines() if line.startswith("#")]
+    return {re.sub(r"[^\w\- ]", "", title.lower()).replace(" ", "-") for title in titles}
+
+
+def dead_links(page, lines):
+    for number, line in enumerate(lines, 1):
+        for file, heading in LINK.findall(line):
+            there = page.parent / file if file else page
+            if not there.exists() or heading and heading not in headings(there):
+                yield f"{page.relative_to(TOP)}:{number}: no such page or heading: {file}#{heading}"
+
+
 def check_page(page, update):
     """The number of commands run, and the lines that tell of those that print something else."""
     lines = page.read_text().splitlines()
@@ -122,7 +138,7 @@ def check_page(page, update):
         for c, got in reversed(wrong):
             lines[c.start:c.end] = got
         page.write_text("\n".join(lines) + "\n")
-    return len(ran), told
+    return len(ran), told + list(dead_links(page, lines))
 
 
 def main(words):
@@ -136,7 +152,7 @@ def main(words):
     for line in told:
         print(line)
     if told and not update:
-        print("these examples print something else than their page says")
+        print("these examples print something else than their page says, or links lead nowhere")
         return 1
     print(f"{count} commands of the pages print what the pages say")
     return 0
