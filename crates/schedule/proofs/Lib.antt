@@ -1,7 +1,10 @@
 mod Example
+mod Explained
 mod Filing
 mod Fitting
 mod Lengths
+mod Mapped
+mod Misplaced
 mod Numbers
 mod Pieces
 mod Rendered
