@@ -53,7 +53,7 @@ root_crashed at = Down Crashed at
 abbrev pub new : Meaning → Plan → Setting
 new m plan = record { pace = m; plan = plan; slots = 100; before = opened m plan }
 
--- a party that is in, and a due beat on its way to it
+-- a beat whose last tick is the clock is under way to a party that is in
 abbrev pub with_beat : (slots clock : ℕ) → Setting
 with_beat slots clock =
     let p : Party = party (noted On false 0) (owning (Live In) clock) (legs_of (Some (beat clock false 0)) None None) in

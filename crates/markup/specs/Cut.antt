@@ -27,7 +27,7 @@ kept w room (element t i a) =
     (element t (kept w (room - size w t) i) none))
     none
 
--- the elements, each before those that begin later
+-- the elements in the order in which they are begun
 abbrev pub begun : {T : Type 0} → Forest T → List T
 begun none = []
 begun (element t i a) = t ∷ (begun i ++ begun a)

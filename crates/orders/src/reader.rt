@@ -1,4 +1,4 @@
-// Goes over the bytes of a file, record by record.
+// Walks the bytes of a file, one record at a time.
 ghost use Rattle.std.specs.Prelude.{◌≡◌, ◌≤◌, cond, length, take, drop};
 ghost use Rattle.orders.specs.Reading.{whole, start_at, after_start, order_at, after_order, at_place};
 

@@ -105,7 +105,7 @@ module _ (a b : ℕ) (low : 1 ≤ a) (ordered : a ≤ b) (high : b < 2 ^ 32) whe
 
 -- ---- what follows of the waits
 
--- m is the last place; tmax is m or m + 1 bits longer than tmin
+-- m is the last place, and the difference of the lengths in bits or one less
 record Found (l : Limits) (m : ℕ) : Type 0 where
   last : Last l.tmin l.tmax m
   lengths : LengthsApart l.tmin l.tmax m
@@ -140,7 +140,7 @@ module _ (l : Limits) where
       let t = shape_of found.0 found.1.last in
       slice_get-get_or (halving l.tmin l.tmax) k 0 h ∙ ap Some (t.at k (omega (arith, t.long)))
 
--- the last place tells how often tmin can be doubled within tmax
+-- the last place is the largest k with tmin * 2 ^ k at most tmax
 largest : (tmin tmax m : ℕ) → Last tmin tmax m → Largest tmin tmax m
 largest tmin tmax m last = (
   (le-div_iff_mul-le (pow_pos m)).0 last.reached,

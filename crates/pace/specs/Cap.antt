@@ -6,6 +6,6 @@ use Rattle.pace.specs.Meaning.{Meaning, countable}
 abbrev pub count_no : ℕ → ℕ
 count_no m = cond (countable m) 0 2
 
--- a pace's waits, of which no more than m are left
+-- the first m waits of a pace, or all when there are fewer
 abbrev pub capped : ℕ → Meaning → Meaning
 capped m p = record { tmin = p.tmin; tmax = p.tmax; waits = take m p.waits }

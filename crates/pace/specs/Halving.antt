@@ -3,7 +3,7 @@ use Rattle.std.specs.Prelude.{◌≡◌, ℕ, ◌+◌, ◌-◌, ◌*◌, ◌/◌
 use Rattle.std.specs.Int.Count.{count_leading_zeros}
 use Rattle.pace.specs.Falling.{falling}
 
--- tmax, halved (rounding down) for as long as the outcome isn't below tmin
+-- tmax, then half the wait before it, fraction dropped, while that is at least tmin
 unfoldable pub halving : ℕ → ℕ → List ℕ
 halving tmin tmax = falling (λ w. w / 2) true 64 tmin tmax
 
@@ -15,7 +15,7 @@ Largest tmin tmax k = (tmin * 2 ^ k ≤ tmax) × ((j : ℕ) → tmin * 2 ^ j ≤
 abbrev pub bit_length : ℕ → ℕ
 bit_length x = 32 - count_leading_zeros 32 x
 
--- tmax is k or k + 1 bits longer than tmin
+-- k is the difference of the two lengths in bits, or one less
 abbrev pub LengthsApart : ℕ → ℕ → ℕ → Type 0
 LengthsApart tmin tmax k =
     (bit_length tmin + k ≡ bit_length tmax) ⊎ (bit_length tmin + k + 1 ≡ bit_length tmax)

@@ -3,7 +3,7 @@ use Rattle.std.specs.Prelude.{ℕ, Bool, cond, ◌&&◌, List, length, ◌==◌,
 use Rattle.std.specs.List.{list_all}
 use Rattle.pace.specs.Meaning.{countable}
 
--- is no wait below tmin or above tmax?
+-- does every wait lie from tmin to tmax?
 abbrev pub all_within : ℕ → ℕ → List ℕ → Bool
 all_within tmin tmax ws = list_all (λ w. nat_le tmin w && nat_le w tmax) ws
 

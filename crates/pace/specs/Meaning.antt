@@ -23,6 +23,6 @@ pub record Lawful (m : Meaning) : Type 0 where
 abbrev pub between : Limits → List ℕ → Meaning
 between l ws = record { tmin = l.tmin; tmax = l.tmax; waits = ws }
 
--- are there at least 1 and at most 64 waits?
+-- is the number of waits 1 to 64?
 abbrev pub countable : ℕ → Bool
 countable m = nat_le 1 m && nat_le m 64

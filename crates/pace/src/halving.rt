@@ -1,4 +1,4 @@
-// tmax, halved for as long as the outcome isn't below tmin.
+// tmax, then half the wait before it, while that is at least tmin.
 ghost use Rattle.std.specs.Prelude.{◌≡◌, ◌-◌, length};
 ghost use Rattle.pace.specs.Meaning.{between};
 ghost use Rattle.pace.specs.Halving.{halving, Largest, LengthsApart};

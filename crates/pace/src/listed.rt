@@ -27,7 +27,7 @@ fn lie_within(waits: &[u32], limits: Limits) -> bool
 }
 
 impl Listed {
-    // Made with tmax as its only wait.
+    // Starts as the one wait tmax.
     pub fn new(limits: Limits) -> Listed
         ensures limits { result.limits ≡ limits }
         ensures waits { result.waits ≡ limits.tmax ∷ [] }

@@ -16,7 +16,7 @@ pub trait Pace {
     fn rounds(&self) -> u32
         ensures { result ≡ length (means self.now).waits };
 
-    // The wait at place k, counted from 0, if there is one.
+    // The wait at place k, counted from 0, or that there is none.
     fn wait(&self, k: u32) -> Option<u32>
         ensures { result ≡ slice_get (means self.now).waits k };
 

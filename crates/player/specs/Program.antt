@@ -81,7 +81,7 @@ pub record FileOutcome (file : List ℕ) (os os' : List Order) (hs hs' : List Ha
   pub orders : os' ≡ (loaded file [] os).items ++ (loaded file [] os).spare
   pub came : Read (loaded file [] os).answer (loaded file [] os).items hs hs' out out' bytes lines
 
--- the same, with the lines in the 128 bytes that the call hands out
+-- the same, the lines being answered as 128 bytes, the rest 0, with their length
 pub record FileRun (file : List ℕ) (os os' : List Order) (hs hs' : List Happening) (out out' : List ℕ) (bytes : ℕ) (notices : LineBytes) : Type 0 where
   pub lines : List ℕ
   pub outcome : FileOutcome file os os' hs hs' out out' bytes lines

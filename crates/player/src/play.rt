@@ -76,7 +76,7 @@ pub fn tick_to<P: Pace>(
     Ok(())
 }
 
-// Closes ticks up to the one that the order names, and then makes its call.
+// Ticks until the clock is the order's tick, and then acts.
 fn obey<P: Pace>(
     group: &mut Group<P>,
     log: &mut SlotList<'_, Happening>,
@@ -93,7 +93,7 @@ fn obey<P: Pace>(
     Ok(())
 }
 
-// Plays the orders from the first on, up to a refusal; what was done until then is kept.
+// Plays the orders, first to last; the first refusal ends the playing, and what was done before it stands.
 pub fn play<P: Pace>(
     group: &mut Group<P>,
     orders: &SlotList<'_, Order>,

@@ -128,7 +128,7 @@ module _ (m : Meaning) (sound : Lawful m) (plan : Plan) (room : ℕ) where
   puts before (Join j) i leg b z lo hi e = inr (later before (Join j) i leg b z lo hi e refl)
   puts before (Leave j) i leg b z lo hi e = inr (later before (Leave j) i leg b z lo hi e refl)
 
-  -- until when a beat on a leg is under way, by its sending
+  -- the last tick of a beat on a leg, by its sending
 
   module _ (calls : List Call) (i leg : ℕ) (b : Beat) (lo : 1 ≤ i) (hi : i ≤ plan.n) where
     written_at : (before : List Call) (call : Call) (k : ℕ) → let now = reached m plan room before in

@@ -144,7 +144,7 @@ any f n ps = folds (λ _ b p. b || f p) 1 n false ps
 abbrev pub shorter : List ℕ → ℕ → ℕ → Party → ℕ
 shorter waits k w p = cond (on_roll p.note.roll) (min w (unwrap_or (slice_get waits p.note.misses) w)) w
 
--- the smallest wait in force on the roll, tmax where it is empty
+-- the smallest wait among the parties on the roll, tmax with none
 abbrev pub shortest : List ℕ → ℕ → ℕ → List Party → ℕ
 shortest waits tmax n ps = folds (shorter waits) 1 n tmax ps
 
@@ -157,7 +157,7 @@ amid ps log t =
 abbrev pub passed : (ℕ → List Happening → Party → Party) → (ℕ → List Happening → Party → List Happening) → ℕ → Play → Play
 passed f g n s = amid (walks f g 1 n s.log s.table.parties) (folds g 1 n s.log s.table.parties) s.table
 
--- a round ends: misses are counted of everybody on the roll
+-- a round ends: each party on the roll has its misses counted
 abbrev pub counted : ℕ → Play → Play
 counted n s = amid (walks (λ _ (u : ℕ) p. missed p) (λ _ (u : ℕ) _. u) 1 n 0 s.table.parties) s.log s.table
 
@@ -165,7 +165,7 @@ counted n s = amid (walks (λ _ (u : ℕ) p. missed p) (λ _ (u : ℕ) _. u) 1 n
 abbrev pub send_log : ℕ → List Happening → Party → List Happening
 send_log clock log p = cond (on_roll p.note.roll) (tells_of clock 0 Sent log) log
 
--- a beat goes out on leg 1 to everybody on the roll, by rising number
+-- each party on the roll, rising, gets a beat on leg 1
 abbrev pub sent : ℕ → ℕ → Play → Play
 sent last n s = passed (λ _ log p. sends last (length log) p) (λ _ log p. send_log s.table.clock log p) n s
 

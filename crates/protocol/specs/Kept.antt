@@ -244,14 +244,14 @@ Beckoned tmin c (Live In) h o = Unit {0}
 Beckoned tmin c (Live Leaving) h o = Unit {0}
 Beckoned tmin c (Ended how e s) h o = Unit {0}
 
--- where no loss and no crash was granted: a joining party's call is under way, and a party on the roll has missed nothing, lives and will be heard
+-- where each loss and crash was refused: a joining party's call is under way, and a party on the roll has missed nothing, lives and will be heard
 abbrev pub Trusted : Roll → Note → Own → Legs → ℕ → ℕ → ℕ → ℕ → Type 0
 Trusted Off n o g tmin d a l = Called o.standing g.entry (o.since + tmin)
 Trusted On n o g tmin d a l =
     (n.misses ≡ 0) × Alive o.standing × Word n.heard g.out g.reply × Ahead g.out (a + tmin) l (o.since + d)
 Trusted Struck n o g tmin d a l = Unit {0}
 
--- where no loss and no crash was granted (the Bool), the root runs and nobody has crashed or stopped
+-- where each loss and crash was refused (the Bool), the root runs and nobody has crashed or stopped
 abbrev pub Clean : Bool → Root → Note → Own → Legs → ℕ → ℕ → ℕ → ℕ → Type 0
 Clean false r n o g tmin d a l = Unit {0}
 Clean true r n o g tmin d a l = Up r × Well o.standing × Trusted n.roll n o g tmin d a l
@@ -296,7 +296,7 @@ pub record Kept (m : Terms) (kind : GroupKind) (q : Bool) (c : ℕ) (r : Root) (
   pub cause : Cause p.own.standing r
   -- joining beats go out every tmin ticks from the joining on
   pub beckoned : Beckoned m.tmin c p.own.standing p.own.since p.legs.entry
-  -- where no loss and no crash was granted, nobody has crashed or stopped
+  -- where each loss and crash was refused, nobody has crashed or stopped
   pub spared : Clean q r p.note p.own p.legs m.tmin m.bears a l
 
 -- the numbers of a pace in a group of such a kind

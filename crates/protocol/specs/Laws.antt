@@ -28,7 +28,7 @@ EndedAt p e = (how : Ending) × (g : Stage) × (p.own.standing ≡ Ended how e g
 abbrev pub RootEndedAt : Play → ℕ → Type 0
 RootEndedAt s e = (how : RootEnding) × (s.table.root ≡ Down how e)
 
--- after the end of a party on the roll the root ends within the patience of a party
+-- where a party on the roll has ended, the root ends within the patience of a party
 pub record RootFollows (m : Meaning) (plan : Plan) (s : Play) : Type 0 where
   pub root_follows :
       (i e : ℕ) → 1 ≤ i → i ≤ plan.n → OnRoll (the i s.table) → EndedAt (the i s.table) e →
@@ -50,7 +50,7 @@ pub record NobodyStopped (plan : Plan) (s : Play) : Type 0 where
   pub root_not : (e : ℕ) → s.table.root ≢ Down RootStopped e
   pub party_not : (i e : ℕ) (g : Stage) → 1 ≤ i → i ≤ plan.n → (the i s.table).own.standing ≢ Ended Stopped e g
 
--- the four laws of the end; the last wants that no loss and no crash was granted
+-- the four laws of the end; the last wants that each loss and crash was refused
 pub record EndTogetherForCause (m : Meaning) (plan : Plan) (calls : List Call) (answers : List ℕ) (s : Play) : Type 0 where
   pub root_follows : RootFollows m plan s
   pub parties_follow : PartiesFollow m plan s

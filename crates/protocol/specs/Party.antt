@@ -57,7 +57,7 @@ on_roll On = true
 on_roll Off = false
 on_roll Struck = false
 
--- the legs: 1 to the party, 2 its replies, 3 its joining beats
+-- the legs: 1 out from the root, 2 the reply, 3 the joining beats
 
 abbrev pub on_leg : ℕ → Party → Option Beat
 on_leg leg p = cond (leg == 1) p.legs.out (cond (leg == 2) p.legs.reply (cond (leg == 3) p.legs.entry None))
@@ -77,19 +77,19 @@ off_leg leg p = cond (leg == 1) (off_out p) (cond (leg == 2) (off_reply p) (cond
 
 -- deliver
 
--- the stage of a party once it has heard the root: a joining one gets in
+-- the stage of a party that has heard the root: a joining one is now in
 abbrev pub heard_stage : Stage → Stage
 heard_stage Joining = In
 heard_stage In = In
 heard_stage Leaving = Leaving
 
--- a reply is parting just where the party is leaving
+-- a leaving party's reply is parting
 abbrev pub parts : Stage → Bool
 parts Joining = false
 parts In = false
 parts Leaving = true
 
--- a beat of the root, of last tick l, arrives: a live party hears it at the clock, and its reply on leg 2, sent at place, takes over l
+-- a beat of the root, of last tick l, arrives: a live party hears it at the clock and puts a reply on leg 2, of the same last tick and sent at place
 abbrev pub hears_as : Standing → ℕ → ℕ → ℕ → Party → Party
 hears_as Outside clock place l p = p
 hears_as (Live g) clock place l p =
@@ -120,7 +120,7 @@ arrives clock root leg b place p =
 
 -- crash, join, leave
 
--- only a live party crashes; it keeps when that was, and its stage before
+-- only a live party crashes, and it keeps the clock at its end and its stage before
 abbrev pub crashed_as : Standing → ℕ → Standing
 crashed_as Outside clock = Outside
 crashed_as (Live g) clock = Ended Crashed clock g
@@ -143,7 +143,7 @@ abbrev pub due_on : ℕ → Option Beat → Bool
 due_on clock None = false
 due_on clock (Some b) = b.last == clock
 
--- a due beat is still on a leg: the clock is its last tick
+-- a beat whose last tick is the clock is still on a leg
 abbrev pub due : ℕ → Party → Bool
 due clock p = due_on clock p.legs.out || (due_on clock p.legs.reply || due_on clock p.legs.entry)
 

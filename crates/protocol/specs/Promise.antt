@@ -31,13 +31,13 @@ pub record KeepsTheRules (m : Meaning) (plan : Plan) (room : ℕ) (steps : List 
   pub by_the_rules : Rehearsed m plan room (opened m plan) steps s
   -- the clock tells how many ticks were granted
   pub clock_counts_the_granted_ticks : s.table.clock ≡ granted_ticks steps
-  -- once the clock is beyond c + D, c being the end of a party on the roll, the root no longer runs
+  -- a party on the roll ended at tick c and the clock is past c + D: the root has ended
   pub root_ends_within_D_of_a_party_on_the_roll : RootFollows m plan s
-  -- once it is beyond r + D + trip, r being the end of the root, nobody on the roll is live
+  -- the root ended at tick c and the clock is past c + D + trip: each party on the roll has ended
   pub parties_on_the_roll_end_within_D_and_a_trip_of_the_root : PartiesFollow m plan s
-  -- a party that stops while it is in does so no earlier than the root's end
+  -- a party stopped that was in just before: the root has ended, and no later than that party
   pub party_that_was_in_stops_no_earlier_than_the_root : StopsForCause plan s
-  -- where no loss and no crash was granted, nobody has stopped
+  -- each loss and crash was refused: nobody has stopped
   pub nobody_stops_unharmed : unharmed (map call_of steps) (map answer_of steps) ≡ true → NobodyStopped plan s
   -- each beat on a leg, each arrival and each loss goes back to its sending
   pub beats_go_back_to_their_sendings : BeatsAreLogged plan s

@@ -1,4 +1,4 @@
--- Striking is final.
+-- A struck party is struck for good.
 use Rattle.std.specs.Prelude.{◌≡◌, ℕ, ◌≤◌, List, ◌++◌, None}
 use Rattle.pace.specs.Meaning.{Meaning, Lawful}
 use Rattle.protocol.specs.declared.party.Roll.TheVariants.{Struck}

@@ -52,7 +52,7 @@ pub enum Standing {
     Ended(Ending, u32, Stage),
 }
 
-// Whether the root sends to the party: only while it is on the roll. Striking is final.
+// Whether the root sends to the party: only while it is on the roll. A struck party is struck for good.
 #[derive(Clone, Copy, Debug, PartialEq, Eq)]
 pub enum Roll {
     Off,
@@ -85,7 +85,7 @@ pub struct Note {
 #[derive(Clone, Copy, Debug, PartialEq, Eq)]
 pub struct Own {
     pub standing: Standing,
-    // When it last heard the root, or joined.
+    // The tick when it last heard the root, or joined.
     pub since: u32,
 }
 

@@ -5,7 +5,7 @@ ghost use Rattle.protocol.specs.Texts.{refusal_text};
 
 use std::fmt;
 
-// One for each question, by its number; a call puts them in this order.
+// One for each question, by its number, in the order in which the questions are put.
 #[derive(Clone, Copy, Debug, PartialEq, Eq)]
 pub enum Refusal {
     // The party is not one of the plan's.
@@ -18,7 +18,7 @@ pub enum Refusal {
     NoBeat = 9,
     // The clock has come to its end.
     ClockAtEnd = 10,
-    // A due beat is still on its leg: the clock is its last tick.
+    // A beat whose last tick is the clock is still on its leg.
     BeatDue = 11,
     // The log has not as many free slots as the call may need.
     NoSlot = 12,

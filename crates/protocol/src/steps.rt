@@ -172,7 +172,7 @@ impl Party {
         }
     }
 
-    // The beat arrives from its leg: at the party from leg 1, at the root from the others. A root that has ended takes no note.
+    // The beat arrives from its leg: at the party from leg 1, at the root from legs 2 and 3. A root that has ended does nothing more.
     pub fn arrive(&mut self, clock: u32, root: Root, leg: u8, beat: Beat, place: usize)
         ensures { self.new ≡ arrives clock root leg beat place self.old }
     {

@@ -7,7 +7,7 @@ pub mod list;
 pub mod refusal;
 pub mod timed;
 
-// The first `len` slots hold the records, the oldest in front; the others are spare.
+// The first `len` slots hold the records, in the order in which they were appended; the others are spare.
 // No `impl Model`: contracts name the borrow of the slots (`ghost_name`), which a view of the records would hide.
 #[derive(Drop)]
 pub struct SlotList<'a, T> {

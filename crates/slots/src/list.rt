@@ -93,7 +93,7 @@ impl<'a, T: Timed + Copy> SlotList<'a, T> {
         Ok(())
     }
 
-    // Where the first record stands that is not earlier than `tick`. A scan, so that it is right for any ticks.
+    // The first place whose tick is at least `tick`. A scan, so that it is right for any ticks.
     pub fn first_at_or_after(&self, tick: u32) -> Option<usize>
         ensures place { result ≡ first_place T.Timed.time tick (items self.now) }
         ensures first { First T.Timed.time tick (items self.now) result }

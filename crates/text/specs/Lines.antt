@@ -21,6 +21,6 @@ added t more = cond (nat_le (length t + length more) 128) (t ++ more) t
 abbrev pub padded : List ℕ → List ℕ
 padded t = t ++ replicate (128 - length t) 0
 
--- a text that is handed out as 128 bytes, with zeros behind it, and its length
+-- a text answered as 128 bytes, the rest 0, with its length
 abbrev pub AnsweredAs : List ℕ → LineBytes → Type 0
 AnsweredAs t answer = (answer.bytes ≡ padded t) × (answer.len ≡ length t)

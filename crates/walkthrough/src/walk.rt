@@ -29,7 +29,7 @@ fn tell_since<P: Pace>(
     Ok(answer)
 }
 
-// Closes ticks up to the one that the order names, then makes its call, up to the first refusal. What the ticks wrote is told before the order's call:
+// Ticks until the clock is the order's tick, then acts, up to the first refusal. What the ticks wrote is told before the order acts:
 // until then each beat that they sent is still on its leg.
 fn obey<P: Pace>(
     rt: &impl Print,

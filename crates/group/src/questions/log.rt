@@ -30,7 +30,7 @@ pub(crate) fn ask_log(
     Ok(())
 }
 
-// Is the log of just the length that the group wrote, with no record after the clock? The last one answers for all.
+// Has the log as many records as the group wrote, none later than the clock? The last record answers for all.
 pub(crate) fn is_own_log(table: &Table, log: &SlotList<'_, Happening>) -> bool
     ensures { result ≡ is_own_log (play table.now log.now) }
 {
