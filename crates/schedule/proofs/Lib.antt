@@ -1,3 +1,4 @@
+mod Complained
 mod Example
 mod Explained
 mod Filing

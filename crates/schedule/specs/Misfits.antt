@@ -1,13 +1,16 @@
 -- The first word of a line that does not fit its place.
-use Rattle.std.specs.Prelude.{◌≡◌, ℕ, ◌+◌, ◌==◌, Bool, true, false, ◌||◌, if◌then◌else◌, List, [], ◌∷◌, Some, None, Option}
+use Rattle.std.specs.Prelude.{◌≡◌, ℕ, ◌+◌, ◌==◌, Bool, true, false, ◌||◌, if◌then◌else◌, List, [], ◌∷◌, Some, None, Err, Option}
 use Rattle.std.specs.Option.{option_map}
 use Rattle.std.specs.Result.{result_err}
+use Rattle.orders.specs.declared.order.Order.{Order}
 use Rattle.schedule.specs.declared.complaint.Cause.{Cause}
+use Rattle.schedule.specs.declared.complaint.Cause.TheVariants.{MissingWord, UnknownWord, NotANumber, NumberTooLarge, WordTooMany, EarlierTick, NoSlot, NoStart, NoRoom}
 use Rattle.schedule.specs.declared.misfit.Misfit.{Misfit}
 use Rattle.schedule.specs.declared.place.Place.{Place}
-use Rattle.schedule.specs.Cuts.{line_words, behind}
+use Rattle.schedule.specs.Cuts.{lines_in, line_words, behind}
 use Rattle.schedule.specs.Maps.{has_words}
 use Rattle.schedule.specs.Records.{start_in, order_in}
+use Rattle.schedule.specs.Texts.{reads}
 use Rattle.schedule.specs.Places.{fault, start_places, order_places, second_kind}
 
 -- what a misfit says, wherever its word lies
@@ -52,3 +55,21 @@ MisfitsExplain =
     (w : List ℕ) (ws : List (List ℕ))
     → (result_err (start_in (w ∷ ws)) ≡ cause_told (line_misfit false (w ∷ ws)))
     × (result_err (order_in (w ∷ ws)) ≡ cause_told (line_misfit true (w ∷ ws)))
+
+-- whether a complaint is about a word of its line
+abbrev pub is_about_word : Cause → Bool
+is_about_word MissingWord = true
+is_about_word UnknownWord = true
+is_about_word NotANumber = true
+is_about_word NumberTooLarge = true
+is_about_word WordTooMany = true
+is_about_word EarlierTick = false
+is_about_word NoSlot = false
+is_about_word NoStart = false
+is_about_word NoRoom = false
+
+-- the complaint about a word of a text is that of the misfit on the complaint's line
+abbrev pub ComplaintsExplained : Type 0
+ComplaintsExplained =
+    (text : List ℕ) (slots : List Order) (e : Cause) → (reads text slots).answer ≡ Err e → is_about_word e ≡ true
+    → cause_told (misfit_at (reads text slots).line false 0 (lines_in text)) ≡ Some e

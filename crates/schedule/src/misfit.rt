@@ -2,7 +2,7 @@
 ghost use Rattle.std.specs.Prelude.{◌≡◌, false};
 ghost use Rattle.std.specs.Option.{option_map};
 ghost use Rattle.schedule.specs.Cuts.{lines_in, line_words, words_in};
-ghost use Rattle.schedule.specs.Misfits.{seen, first_misfit, line_misfit, misfit_at, MisfitsExplain};
+ghost use Rattle.schedule.specs.Misfits.{seen, first_misfit, line_misfit, misfit_at, MisfitsExplain, ComplaintsExplained};
 
 use crate::complaint::Cause;
 use crate::lines::Lines;
@@ -26,6 +26,7 @@ pub struct Misfit<'a> {
 pub fn find_misfit(text: &[u8], number: usize) -> Option<Misfit<'_>>
     ensures first { option_map seen result ≡ misfit_at number false 0 (lines_in text.now) }
     ensures explains { MisfitsExplain }
+    ensures complaints { ComplaintsExplained }
 {
     let mut lines = Lines::new(text);
     let mut started = false;

@@ -2,6 +2,7 @@ use Rattle.std.proofs.Common.{sym, ap, ◌∙◌}
 use Rattle.schedule.specs.Cuts.{lines_in, line_words}
 use Rattle.schedule.specs.Maps.{has_words}
 use Rattle.schedule.specs.Misfits.{misfit_at}
+use Rattle.schedule.proofs.Complained.{complaints_explained}
 use Rattle.schedule.proofs.Explained.{misfits_explain}
 use Rattle.schedule.proofs.Misplaced.{line_reached, line_passed, no_line_left, or_true, or_false}
 use Rattle.schedule.proofs.misfit.find_misfit.Goals as goal
@@ -16,6 +17,7 @@ returns-then-number c =
           ∙ sym (line_reached c.args.number l.number m.number c.loop-line.started (lines_in l.rest.now) (lines_in m.rest.now) c.in-Some.line.now h.0 h.1 (sym c.number.ensures.number ∙ c.if-number.true))
           ∙ sym c.loop-line.invariant;
       explains = misfits_explain;
+      complaints = complaints_explained;
     }
 
 pub loop-line-preserved-then-started : goal.loop-line-preserved-then-started
@@ -42,4 +44,5 @@ returns c =
     record {
       first = sym (c.loop-line.invariant ∙ no_line_left c.args.number c.loop-line.started l.number (lines_in l.rest.now) c.in_default.ensures.steps.0);
       explains = misfits_explain;
+      complaints = complaints_explained;
     }
