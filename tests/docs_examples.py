@@ -1,6 +1,6 @@
 #!/usr/bin/env python3
-"""Runs the examples of the pages, compares what they print with what the pages say, and follows
-the links from page to page.
+"""Runs the examples of the pages, compares what they print with what the pages say, follows the
+links from page to page, and looks for each file that a page names.
 
     python3 tests/docs_examples.py [PAGE ..]            all pages unless some are named
     python3 tests/docs_examples.py --update [PAGE ..]   writes what is printed into the pages
@@ -23,11 +23,15 @@ import tempfile
 from dataclasses import dataclass
 
 TOP = pathlib.Path(__file__).resolve().parent.parent
-SECONDS = 120
+BUILT = ["target", "out"]
+PROGRAMS = ["compose", "runfile", "walkthrough"]
+SECONDS = "120"
 FENCE = "```"
 PROMPT = "$ "
 GAP = "..."
 PRINTED_BY = re.compile(r"<!-- printed by: (.*) -->")
+SOURCE = re.compile(r"`([\w./-]+\.(?:rt|antt|py|sh|bugs|list))`")
+HISTORY = ["PORT.md", "DESIGN-PASS.md"]      # they name files that were there once
 LINK = re.compile(r"\]\(([^):#]*)(?:#([^)]*))?\)")
 
 
@@ -78,8 +82,8 @@ def steps(lines):
 
 
 def printed(command, folder):
-    ran = subprocess.run(["bash", "-c", command], cwd=folder, stdin=subprocess.DEVNULL,
-                         stdout=subprocess.PIPE, stderr=subprocess.STDOUT, timeout=SECONDS, check=False)
+    ran = subprocess.run(["timeout", SECONDS, "bash", "-c", command], cwd=folder, check=False,
+                         stdin=subprocess.DEVNULL, stdout=subprocess.PIPE, stderr=subprocess.STDOUT)
     return ran.stdout.decode(errors="replace").splitlines()
 
 
@@ -113,8 +117,9 @@ def run_page(lines):
 
 def headings(page):
     """The names by which links lead to a page's headings."""
-    titles = [line.lstrip("#").strip() for line in page.read_text().splitlines() if line.startswith("#")]
-    return {re.sub(r"[^\w\- ]", "", title.lower()).replace(" ", "-") for title in titles}
+    lines = page.read_text().splitlines()
+    titles = [line.lstrip("#").strip().lower() for line in lines if line.startswith("#")]
+    return {re.sub(r"[^\w\- ]", "", title).replace(" ", "-") for title in titles}
 
 
 def dead_links(page, lines):
@@ -123,6 +128,24 @@ def dead_links(page, lines):
             there = page.parent / file if file else page
             if not there.exists() or heading and heading not in headings(there):
                 yield f"{page.relative_to(TOP)}:{number}: no such page or heading: {file}#{heading}"
+
+
+def files_there():
+    """The repository's own files, by their whole paths."""
+    for folder, below, names in os.walk(TOP):
+        below[:] = [name for name in below if name not in BUILT and not name.startswith(".")]
+        yield from (f"{folder}/{name}" for name in names)
+
+
+def lost_files(page, lines):
+    """The files that the page names, by their last folders, and that are not there."""
+    if page.name in HISTORY:
+        return
+    there = list(files_there())
+    for number, line in enumerate(lines, 1):
+        for name in SOURCE.findall(line):
+            if not any(path.endswith(f"/{name}") for path in there):
+                yield f"{page.relative_to(TOP)}:{number}: no such file: {name}"
 
 
 def check_page(page, update):
@@ -138,10 +161,14 @@ def check_page(page, update):
         for c, got in reversed(wrong):
             lines[c.start:c.end] = got
         page.write_text("\n".join(lines) + "\n")
-    return len(ran), told + list(dead_links(page, lines))
+    return len(ran), [*told, *dead_links(page, lines), *lost_files(page, lines)]
 
 
 def main(words):
+    missing = [name for name in PROGRAMS if not (TOP / "target" / "bin" / name).exists()]
+    if missing:
+        print(f"not built: {' '.join(missing)}; tools/build.sh builds them")
+        return 1
     update = "--update" in words
     chosen = [TOP / word for word in words if word != "--update"] or pages()
     count, told = 0, []
@@ -152,7 +179,7 @@ def main(words):
     for line in told:
         print(line)
     if told and not update:
-        print("these examples print something else than their page says, or links lead nowhere")
+        print("an example prints something else than its page, or a link or a file isn't there")
         return 1
     print(f"{count} commands of the pages print what the pages say")
     return 0
