@@ -1,7 +1,11 @@
+mod Complained
 mod Example
+mod Explained
 mod Filing
 mod Fitting
 mod Lengths
+mod Mapped
+mod Misplaced
 mod Numbers
 mod Pieces
 mod Rendered
