@@ -8,6 +8,7 @@ mod Mapped
 mod Misplaced
 mod Numbers
 mod Pieces
+mod Placing
 mod Rendered
 mod Taking
 mod Walks

@@ -1,6 +1,10 @@
 -- Which lines of a text hold its records.
-use Rattle.std.specs.Prelude.{ℕ, ◌+◌, Bool, true, false, if◌then◌else◌, List, [], ◌∷◌}
+use Rattle.std.specs.Prelude.{◌≡◌, ℕ, ◌+◌, ◌-◌, Bool, true, false, if◌then◌else◌, List, [], ◌∷◌, Some, Ok, map, drop, slice_index_or}
+use Rattle.orders.specs.declared.order.Order.{Order}
+use Rattle.orders.specs.declared.start.Start.{Start}
 use Rattle.schedule.specs.Cuts.{lines_in, line_words}
+use Rattle.schedule.specs.Records.{order_in}
+use Rattle.schedule.specs.Texts.{reads}
 
 abbrev pub has_words : List (List ℕ) → Bool
 has_words [] = false
@@ -17,3 +21,13 @@ all_lines_behind n text = worded n (lines_in text)
 
 abbrev pub record_lines : List ℕ → List ℕ
 record_lines text = all_lines_behind 0 text
+
+-- the words of line m, the first line being line 1
+abbrev pub words_at : List ℕ → ℕ → List (List ℕ)
+words_at text m = line_words (slice_index_or (lines_in text) (m - 1) [])
+
+-- behind the start's line, they are the lines of the orders, one for each, in the orders' own order
+abbrev pub MapsOrders : Type 0
+MapsOrders =
+    (text : List ℕ) (slots : List Order) (s : Start) → (reads text slots).answer ≡ Ok s
+    → map (λ m. order_in (words_at text m)) (drop 1 (record_lines text)) ≡ map (λ o. Ok (Some o)) (reads text slots).items

@@ -2,7 +2,7 @@
 ghost use Rattle.std.specs.Prelude.{◌≡◌};
 ghost use Rattle.std.specs.Iterator.{YieldsFirst, item_count};
 ghost use Rattle.schedule.specs.Cuts.{lines_in, line_words};
-ghost use Rattle.schedule.specs.Maps.{has_words, record_lines, all_lines_behind};
+ghost use Rattle.schedule.specs.Maps.{has_words, record_lines, all_lines_behind, MapsOrders};
 
 use crate::lines::Lines;
 use crate::words::Words;
@@ -17,7 +17,8 @@ pub struct RecordLines<'a> {
 impl<'a> RecordLines<'a> {
     /// Of the whole text; lines are counted from 1.
     pub fn new(text: &'a [u8]) -> RecordLines<'a>
-        ensures { all_lines_behind result.lines.number result.lines.rest.now ≡ record_lines text.now }
+        ensures lines { all_lines_behind result.lines.number result.lines.rest.now ≡ record_lines text.now }
+        ensures orders { MapsOrders }
     {
         RecordLines {
             lines: Lines::new(text),
