@@ -140,7 +140,7 @@ module _ (l : Limits) where
       let t = shape_of found.0 found.1.last in
       slice_get-get_or (halving l.tmin l.tmax) k 0 h ∙ ap Some (t.at k (omega (arith, t.long)))
 
--- the last place is the largest k with tmin * 2 ^ k at most tmax
+-- at the last place tmin is doubled as often as tmax has room for
 largest : (tmin tmax m : ℕ) → Last tmin tmax m → Largest tmin tmax m
 largest tmin tmax m last = record {
   fits = (le-div_iff_mul-le (pow_pos m)).0 last.reached;

@@ -3,7 +3,7 @@ use Rattle.std.specs.Prelude.{◌≡◌, ℕ, ◌+◌, ◌-◌, ◌*◌, ◌/◌
 use Rattle.std.specs.Int.Count.{count_leading_zeros}
 use Rattle.pace.specs.Falling.{falling_waits}
 
--- tmax, then half the wait before it, fraction dropped, while that is at least tmin
+-- the first wait is tmax, each later one half of its forerunner, rounded down, and none below tmin
 unfoldable pub halving : ℕ → ℕ → List ℕ
 halving tmin tmax = falling_waits (λ w. w / 2) true 64 tmin tmax
 

@@ -3,7 +3,7 @@ use Rattle.std.specs.Prelude.{ℕ, Bool, if◌then◌else◌, ◌&&◌, List, le
 use Rattle.std.specs.List.{list_all}
 use Rattle.pace.specs.Meaning.{is_wait_count}
 
--- does every wait lie from tmin to tmax?
+-- whether no wait lies outside the limits
 abbrev pub all_within : ℕ → ℕ → List ℕ → Bool
 all_within tmin tmax ws = list_all (λ w. nat_le tmin w && nat_le w tmax) ws
 

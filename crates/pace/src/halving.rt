@@ -7,7 +7,7 @@ ghost use Rattle.pace.specs.laws.Halving.{halving_lawful};
 use crate::limits::Limits;
 use crate::meaning::Pace;
 
-/// Waits tmax, and then half of the wait before, fraction dropped, while that is at least tmin.
+/// Begins at tmax and halves from wait to wait, rounded down, for as long as none is below tmin.
 #[derive(Clone, Copy, Debug, PartialEq, Eq)]
 pub struct Halving {
     limits: Limits,
