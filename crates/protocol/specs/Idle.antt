@@ -4,7 +4,7 @@ use Rattle.pace.specs.Meaning.{Meaning}
 use Rattle.protocol.specs.declared.table.Table.{Table}
 use Rattle.protocol.specs.declared.plan.Plan.{Plan}
 use Rattle.protocol.specs.declared.call.Call.TheVariants.{Tick}
-use Rattle.protocol.specs.Rules.{Rules, patience}
+use Rattle.protocol.specs.Rules.{Rules, patience, clock_limit}
 use Rattle.protocol.specs.Party.{nobody, on_roll}
 use Rattle.protocol.specs.State.{State}
 use Rattle.protocol.specs.calls.Tick.{round_ends}
@@ -32,7 +32,7 @@ abbrev pub IdleRoundsOnlyMoveTheRound : Rules → State → ℕ → Type 0
 IdleRoundsOnlyMoveTheRound rules s rounds =
     let tmax = rules.meaning.tmax in
     let end = s.table.clock + rounds * tmax in
-    0 < rounds → end ≤ 4000000000 → Idle rules.meaning rules.plan s.table end →
+    0 < rounds → end ≤ clock_limit → Idle rules.meaning rules.plan s.table end →
     number rules Tick s ≡ 0 →
     Same (making rules (replicate (rounds * tmax) Tick) s)
     (record { state = state_at_round_end tmax end s; calls = []; number = 0 })

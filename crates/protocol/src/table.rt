@@ -6,6 +6,9 @@ use crate::party::Party;
 use crate::plan::Plan;
 use std::fmt;
 
+/// The last tick that a clock comes to: no tick is closed there, so that no sum of ticks wraps.
+pub const CLOCK_LIMIT: u32 = 4_000_000_000;
+
 /// How the root has ended; it never leaves.
 #[derive(Clone, Copy, Debug, PartialEq, Eq)]
 pub enum RootEnding {

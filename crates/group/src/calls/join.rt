@@ -6,7 +6,7 @@ ghost use Rattle.protocol.specs.calls.Join.{after_join, join_number};
 ghost use Rattle.protocol.specs.Views.{state_of, Ready};
 ghost use Rattle.protocol.specs.declared.call.Call.TheVariants.{Join};
 ghost use Rattle.group.specs.Does.{Does};
-ghost use Rattle.protocol.specs.Rules.{trip};
+ghost use Rattle.protocol.specs.Rules.{trip, clock_limit};
 
 use crate::dues::trip_of;
 use crate::group::Group;
@@ -62,7 +62,7 @@ fn ask_join(
 #[tactic(auto, using(slots::proofs::Growing::extends_trans, crate::proofs::Appends::still_ready))]
 fn do_join(table: &mut Table, log: &mut SlotList<'_, Happening>, member: Member, trip: u32)
     requires ready { Ready log.old table.old.clock 2 }
-    requires early { table.old.clock ≤ 4000000000 }
+    requires early { table.old.clock ≤ clock_limit }
     requires brief { trip ≤ 1000000 }
     ensures extends { Extends log.old log.new }
     ensures after { state_of table.new log.new

@@ -5,12 +5,13 @@ ghost use Rattle.protocol.specs.Party.{on_roll};
 ghost use Rattle.protocol.specs.calls.Tick.{round_ends};
 ghost use Rattle.protocol.specs.Idle.{Idle};
 ghost use Rattle.group.specs.Sane.{Sane};
+ghost use Rattle.protocol.specs.Rules.{clock_limit};
 
 use crate::dues::timer::Timer;
 use pace::Pace;
 use protocol::party::{Party, Roll};
 use protocol::plan::Plan;
-use protocol::table::{Root, Table};
+use protocol::table::{CLOCK_LIMIT, Root, Table};
 
 fn is_round_over(table: &Table) -> bool
     requires { Sane table.now }
@@ -35,7 +36,7 @@ fn is_anybody_on_roll(plan: &Plan, table: &Table) -> bool
 pub(crate) fn idle_rounds<P: Pace>(pace: &P, plan: &Plan, table: &Table, until: u32) -> u32
     requires sane { Sane table.now }
     ensures until { 0 < result → table.now.clock + result * (P.means pace.now).tmax ≤ until }
-    ensures limit { 0 < result → table.now.clock + result * (P.means pace.now).tmax ≤ 4000000000 }
+    ensures limit { 0 < result → table.now.clock + result * (P.means pace.now).tmax ≤ clock_limit }
     ensures idle { 0 < result → Idle (P.means pace.now) plan.now table.now
         (table.now.clock + result * (P.means pace.now).tmax) }
 {
@@ -43,7 +44,7 @@ pub(crate) fn idle_rounds<P: Pace>(pace: &P, plan: &Plan, table: &Table, until: 
         return 0;
     }
     let parties = Timer::at(pace, plan, table).parties_due(table.members(plan));
-    let end = parties.min(until).min(4_000_000_000);
+    let end = parties.min(until).min(CLOCK_LIMIT);
     whole_rounds(table.clock, end, pace.limits().tmax())
 }
 

@@ -6,6 +6,7 @@ ghost use Rattle.protocol.specs.Views.{Ready};
 ghost use Rattle.group.specs.Does.{rules_by};
 ghost use Rattle.group.specs.Sane.{Sane};
 ghost use Rattle.group.specs.Views.{Acted};
+ghost use Rattle.protocol.specs.Rules.{clock_limit};
 
 use crate::calls::tick::passes::{count_misses, send_all};
 use crate::dues::trip_of;
@@ -38,7 +39,7 @@ pub(crate) fn end_round<P: Pace>(
 // The root stops, or starts the next round and sends.
 #[tactic(auto, using(protocol::proofs::Members::any_take))]
 fn settle<P: Pace>(pace: &P, plan: &Plan, table: &mut Table, log: &mut SlotList<'_, Happening>)
-    requires early { table.old.clock ≤ 4000000000 }
+    requires early { table.old.clock ≤ clock_limit }
     requires ready { Ready log.old table.old.clock plan.now.n }
     ensures { Acted plan.now.n (after_verdict (rules_by (P.means pace.now) plan.now log.old))
         table.old table.new log.old log.new }
