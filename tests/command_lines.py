@@ -108,7 +108,7 @@ def walkthrough_checks():
     yield "walkthrough of the task", differs(run_whole("walkthrough", orders), 0, task, b"")
     yield "walkthrough of nothing", differs(run_whole("walkthrough"), 1, EMPTY, EMPTY)
     yield "walkthrough of a text", differs(run_whole("walkthrough", START), 1, EMPTY, EMPTY)
-    plan = (TOP / "examples" / "refused-plan.orders").read_bytes()
+    plan = (TOP / "examples" / "refused-plan-of-33-parties.orders").read_bytes()
     told = b"refused byte 0 number 5\n"
     yield "walkthrough of a refused plan", differs(run_whole("walkthrough", plan), 1, told, told)
 
@@ -118,12 +118,12 @@ def walkthrough_checks():
 # A text, the status, and the messages on standard error; of these NAME is the text's file and OUT the graph's.
 PLAYED = [
     (START + b"12 crash 1\n", 1, "NAME:2: '12 crash 1': refused by number 11: "
-     "Has each beat whose last tick is the clock been delivered or lost? No.\nOUT has the run up to there\n"),
+     "Is every beat off its leg whose last tick this is (delivered, or lost)? No.\nOUT has the run up to there\n"),
     (b"# first\n" + START + b"\n1 wait\n\n2 crash 3 # no such party\n3 wait\n", 1,
      "NAME:6: '2 crash 3 # no such party': refused by number 6: "
-     "Is the party 1 to n, or 0 for crash? No.\nOUT has the run up to there\n"),
+     "Does the plan have this party (a crash takes 0 too, the root)? No.\nOUT has the run up to there\n"),
     (b"\n\nclosed 33 halving 1 10 cap 64\n", 1,
-     "NAME:3: 'closed 33 halving 1 10 cap 64': refused by number 5: Is n 1 to 32? No.\nOUT was not written\n"),
+     "NAME:3: 'closed 33 halving 1 10 cap 64': refused by number 5: Does the plan have at least 1 and at most 32 parties beside the root? No.\nOUT was not written\n"),
     (START + b"4 idle\n", 1, "NAME:2: '4 idle': refused line 2 number 16: a word is not known here\n"
      "met 'idle' where deliver, lose, crash, join, leave or wait is due\nOUT was not written\n"),
     (b"", 1, "NAME:1: refused line 1 number 15: no start\nOUT was not written\n"),

@@ -119,7 +119,7 @@ def check_run(folder, data, room):
 
 
 def inputs():
-    for path in sorted((TOP / "examples").glob("*.orders")):
+    for path in sorted((TOP / "examples").rglob("*.orders")):
         yield path.name, path.read_bytes()
     for place, data in enumerate(schedules.drawn(11, 40)):
         yield f"drawn {place}", data

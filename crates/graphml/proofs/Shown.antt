@@ -1,9 +1,9 @@
 -- The file of a run out of what the export promises of it.
 use Rattle.std.proofs.Common.{◌≡◌, ℕ, ◌-◌, Bool, true, false, cond, List, length, take, IfOk, Ok, Err, Result, ap, ◌∙◌, subst}
-use Rattle.pace.specs.Meaning.{Meaning}
 use Rattle.protocol.specs.declared.plan.Plan.{Plan}
 use Rattle.protocol.specs.declared.call.Step.{Step}
-use Rattle.protocol.specs.Group.{Play}
+use Rattle.protocol.specs.Rules.{Rules}
+use Rattle.protocol.specs.State.{State}
 use Rattle.protocol.specs.Beats.{edges}
 use Rattle.protocol.specs.Promise.{KeepsTheRules}
 use Rattle.protocol.proofs.Own.{own_log}
@@ -25,9 +25,9 @@ if_ok (Err e) P Q f h = tt
 
 -- the premises of what a file shows of a log hold of each run
 deliveries_shown :
-    (m : Meaning) (plan : Plan) (room : ℕ) (steps : List Step) (s : Play) (x : Exported) (bs : List ℕ) →
-    KeepsTheRules m plan room steps s → ShowsTheLog plan.n s.log x bs → x.whole ≡ true → ShowsTheDeliveries m plan room steps s.log bs
-deliveries_shown m plan room steps s x bs kept shown whole = record {
+    (rules : Rules) (steps : List Step) (s : State) (x : Exported) (bs : List ℕ) →
+    KeepsTheRules rules steps s → ShowsTheLog rules.plan.n s.log x bs → x.whole ≡ true → ShowsTheDeliveries rules steps s.log bs
+deliveries_shown rules steps s x bs kept shown whole = record {
   edges = edges 0 s.log;
   read = shown.edges whole;
   deliveries = kept.edges_are_the_granted_deliveries;
@@ -38,25 +38,25 @@ deliveries_shown m plan room steps s x bs kept shown whole = record {
 
 -- the export was made of a group whose plan is the run's
 pub shows :
-    (m : Meaning) (plan : Plan) (room : ℕ) (steps : List Step) (s : Play) (out out' : List ℕ) (r : Result Exported Refusal) (p : Plan) → p ≡ plan →
-    KeepsTheRules m plan room steps s → r ≡ export_answer s p.n (length out) → out' ≡ export_bytes s p.n out →
+    (rules : Rules) (steps : List Step) (s : State) (out out' : List ℕ) (r : Result Exported Refusal) (p : Plan) → p ≡ rules.plan →
+    KeepsTheRules rules steps s → r ≡ export_answer s p.n (length out) → out' ≡ export_bytes s p.n out →
     IfOk r (λ x. x.whole ≡ true → take x.bytes out' ≡ in_frame (body s.log p.n)) →
     IfOk r (λ x. x.whole ≡ false → EndsAt spelling (length out - 275) (body s.log p.n)) →
     IfOk r (λ x. Closes (take x.bytes out')) →
     IfOk r (λ x. ShowsTheLog p.n s.log x (take x.bytes out')) →
-    ShowsTheRun m plan room steps s out out' r
-shows m plan room steps s out out' r p same kept answer bytes whole cut closes shown =
-    let mine = own_log plan s kept.log_in_order in
+    ShowsTheRun rules steps s out out' r
+shows rules steps s out out' r p same kept answer bytes whole cut closes shown =
+    let mine = own_log rules s kept.log_in_order in
     let log_shown = subst (λ (q : Plan). IfOk r (λ x. ShowsTheLog q.n s.log x (take x.bytes out'))) same shown in
     record {
       answer_as_defined =
           answer ∙ ap (λ (q : Plan). export_answer s q.n (length out)) same
-          ∙ ap (λ (b : Bool). cond b (exported s.log plan.n (length out)) (Err LogDiffers)) mine;
+          ∙ ap (λ (b : Bool). cond b (exported s.log rules.plan.n (length out)) (Err LogDiffers)) mine;
       bytes_as_defined =
-          bytes ∙ ap (λ (q : Plan). export_bytes s q.n out) same ∙ ap (λ (b : Bool). cond b (written s.log plan.n out) out) mine;
+          bytes ∙ ap (λ (q : Plan). export_bytes s q.n out) same ∙ ap (λ (b : Bool). cond b (written s.log rules.plan.n out) out) mine;
       whole_as_defined = subst (λ (q : Plan). IfOk r (λ x. x.whole ≡ true → take x.bytes out' ≡ in_frame (body s.log q.n))) same whole;
       cut_at_the_first_that_does_not_fit = subst (λ (q : Plan). IfOk r (λ x. x.whole ≡ false → EndsAt spelling (length out - 275) (body s.log q.n))) same cut;
       closes = closes;
       shows_the_log = log_shown;
-      shows_the_deliveries = if_ok r _ _ (λ x. deliveries_shown m plan room steps s x (take x.bytes out') kept) log_shown;
+      shows_the_deliveries = if_ok r _ _ (λ x. deliveries_shown rules steps s x (take x.bytes out') kept) log_shown;
     }

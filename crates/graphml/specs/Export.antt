@@ -1,16 +1,16 @@
 -- What the export of a group and its log answers and writes.
 use Rattle.std.specs.Prelude.{ℕ, cond, List, Err, Result}
-use Rattle.protocol.specs.Group.{Play}
-use Rattle.protocol.specs.Runs.{is_own_log}
+use Rattle.protocol.specs.State.{State}
+use Rattle.protocol.specs.Questions.{is_own_log}
 use Rattle.graphml.specs.declared.answer.Exported.{Exported}
 use Rattle.graphml.specs.declared.answer.Refusal.{Refusal}
 use Rattle.graphml.specs.declared.answer.Refusal.TheVariants.{LogDiffers}
 use Rattle.graphml.specs.Answer.{exported, written}
 
 -- first whether the log is the group's own, then whether the output has room for the frame
-abbrev pub export_answer : Play → ℕ → ℕ → Result Exported Refusal
+abbrev pub export_answer : State → ℕ → ℕ → Result Exported Refusal
 export_answer s n cap = cond (is_own_log s) (exported s.log n cap) (Err LogDiffers)
 
 -- what the output then holds
-abbrev pub export_bytes : Play → ℕ → List ℕ → List ℕ
+abbrev pub export_bytes : State → ℕ → List ℕ → List ℕ
 export_bytes s n out = cond (is_own_log s) (written s.log n out) out

@@ -1,11 +1,10 @@
 -- What the file of a run shows of it.
 use Rattle.std.specs.Prelude.{◌≡◌, ℕ, ◌-◌, ◌<◌, true, false, List, length, take, IfOk, Result}
 use Rattle.std.specs.List.{All}
-use Rattle.pace.specs.Meaning.{Meaning}
 use Rattle.protocol.specs.declared.happening.Happening.{Happening}
-use Rattle.protocol.specs.declared.plan.Plan.{Plan}
 use Rattle.protocol.specs.declared.call.Step.{Step}
-use Rattle.protocol.specs.Group.{Play}
+use Rattle.protocol.specs.Rules.{Rules}
+use Rattle.protocol.specs.State.{State}
 use Rattle.protocol.specs.Beats.{Edge}
 use Rattle.protocol.specs.Deliveries.{EdgesAreTheDeliveries}
 use Rattle.graphml.specs.declared.answer.Exported.{Exported}
@@ -19,32 +18,32 @@ use Rattle.markup.specs.Cut.{EndsAt}
 use Rattle.graphml.specs.Elements.{spelling}
 
 -- what a whole file of a run by those steps shows of it, whose log is `log`; bs are its bytes
-pub record ShowsTheDeliveries (m : Meaning) (plan : Plan) (room : ℕ) (steps : List Step)
+pub record ShowsTheDeliveries (rules : Rules) (steps : List Step)
     (log : List Happening) (bs : List ℕ) : Type 0 where
   -- its edges are the deliveries that were granted, in their order, and there are no others
   pub edges : List Edge
   pub read : edges_read bs ≡ all_read edges
-  pub deliveries : EdgesAreTheDeliveries m plan room steps log edges
+  pub deliveries : EdgesAreTheDeliveries rules steps log edges
   -- each record of the log is there once, and so are both ends of each edge
   pub each_place_once : (k : ℕ) → k < length log → times k (places_read bs) ≡ 1
   pub edges_have_both_ends : All (HasBothEnds bs) (edges_read bs)
 
 -- of the file of a run by those steps that came to s, in an output that was out and is out' then
-pub record ShowsTheRun (m : Meaning) (plan : Plan) (room : ℕ) (steps : List Step) (s : Play)
+pub record ShowsTheRun (rules : Rules) (steps : List Step) (s : State)
     (out out' : List ℕ) (answer : Result Exported Refusal) : Type 0 where
   -- an output of 275 bytes or more holds the defined file, and after it what it held; the answer tells of it
-  pub answer_as_defined : answer ≡ exported s.log plan.n (length out)
-  pub bytes_as_defined : out' ≡ written s.log plan.n out
+  pub answer_as_defined : answer ≡ exported s.log rules.plan.n (length out)
+  pub bytes_as_defined : out' ≡ written s.log rules.plan.n out
   -- a whole file is the whole defined one
   pub whole_as_defined :
-      IfOk answer (λ x. x.whole ≡ true → take x.bytes out' ≡ in_frame (body s.log plan.n))
+      IfOk answer (λ x. x.whole ≡ true → take x.bytes out' ≡ in_frame (body s.log rules.plan.n))
   -- a cut file has the first elements of all, and the next did not fit
   pub cut_at_the_first_that_does_not_fit :
-      IfOk answer (λ x. x.whole ≡ false → EndsAt spelling (length out - 275) (body s.log plan.n))
+      IfOk answer (λ x. x.whole ≡ false → EndsAt spelling (length out - 275) (body s.log rules.plan.n))
   -- read from its bytes alone, whole or cut, each element in it is closed, inner before outer
   pub closes : IfOk answer (λ x. Closes (take x.bytes out'))
   -- and it shows the log: the first of its happenings and edges, or all of them
-  pub shows_the_log : IfOk answer (λ x. ShowsTheLog plan.n s.log x (take x.bytes out'))
+  pub shows_the_log : IfOk answer (λ x. ShowsTheLog rules.plan.n s.log x (take x.bytes out'))
   -- and a whole one the deliveries
   pub shows_the_deliveries :
-      IfOk answer (λ x. x.whole ≡ true → ShowsTheDeliveries m plan room steps s.log (take x.bytes out'))
+      IfOk answer (λ x. x.whole ≡ true → ShowsTheDeliveries rules steps s.log (take x.bytes out'))

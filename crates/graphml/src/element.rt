@@ -5,9 +5,9 @@ ghost use Rattle.std.specs.Prelude.{◌≡◌, is_ok, if◌then◌else◌};
 ghost use Rattle.graphml.specs.Texts.{head, tail, node_line, node_end, graph_line, graph_end};
 ghost use Rattle.graphml.specs.Elements.{spelling, happened, edge};
 ghost use Rattle.graphml.specs.Numbers.{Fits};
-ghost use Rattle.graphml.specs.State.{state, Sound, wrote, opened, drawn};
+ghost use Rattle.graphml.specs.Writer.{writer, Sound, wrote, opened, drawn};
 ghost use Rattle.markup.specs.Held.{has_room};
-ghost use Rattle.markup.specs.Cut.{all_fits, kept};
+ghost use Rattle.markup.specs.Cut.{all_fits, fitting_part};
 ghost use Rattle.markup.specs.Forests.{one, Each};
 
 use super::lines;
@@ -39,9 +39,9 @@ impl RunGraph {
     // The frame's first lines, with bytes set aside for its last ones.
     #[tactic(auto, unfolding(crate::specs::Texts::head))]
     pub(crate) fn open(out: &mut RunOutput) -> RunGraph
-        requires { Sound (state out.old) 275 }
-        ensures after { state out.new ≡ wrote (state out.old) head }
-        ensures sound { Sound (state out.new) 20 }
+        requires { Sound (writer out.old) 275 }
+        ensures after { writer out.new ≡ wrote (writer out.old) head }
+        ensures sound { Sound (writer out.new) 20 }
     {
         write(out, HEAD);
         RunGraph { open: () }
@@ -49,10 +49,10 @@ impl RunGraph {
 
     // A party's node, or the token back where it does not fit.
     pub(crate) fn open_node(self, out: &mut RunOutput, party: u16) -> Result<PartyNode, RunGraph>
-        requires { Sound (state out.old) 20 }
-        ensures room { is_ok result ≡ has_room (state out.old).out (node_line party) 8 }
-        ensures after { state out.new ≡ (if is_ok result then opened (state out.old) (node_line party) 8 else state out.old) }
-        ensures sound { Sound (state out.new) (if is_ok result then 28 else 20) }
+        requires { Sound (writer out.old) 20 }
+        ensures room { is_ok result ≡ has_room (writer out.old).out (node_line party) 8 }
+        ensures after { writer out.new ≡ (if is_ok result then opened (writer out.old) (node_line party) 8 else writer out.old) }
+        ensures sound { Sound (writer out.new) (if is_ok result then 28 else 20) }
     {
         match begin(out, lines::node_line(party).as_slice(), 8) {
             Ok(()) => Ok(PartyNode { outer: self }),
@@ -62,11 +62,11 @@ impl RunGraph {
 
     // An edge, if it fits.
     pub(crate) fn edge(&self, out: &mut RunOutput, source: usize, target: usize) -> Result<(), Cut>
-        requires { Sound (state out.old) 20 }
-        ensures whole { is_ok result ≡ all_fits spelling (state out.old).out.room (one (edge source target)) }
-        ensures after { state out.new ≡ drawn (state out.old) (one (edge source target)) }
-        ensures numbers { Each Fits (kept spelling (state out.old).out.room (one (edge source target))) }
-        ensures sound { Sound (state out.new) 20 }
+        requires { Sound (writer out.old) 20 }
+        ensures whole { is_ok result ≡ all_fits spelling (writer out.old).out.room (one (edge source target)) }
+        ensures after { writer out.new ≡ drawn (writer out.old) (one (edge source target)) }
+        ensures numbers { Each Fits (fitting_part spelling (writer out.old).out.room (one (edge source target))) }
+        ensures sound { Sound (writer out.new) 20 }
     {
         begin(out, lines::edge_line(source, target).as_slice(), 0)?;
         out.counts.edges += 1;
@@ -75,8 +75,8 @@ impl RunGraph {
 
     #[tactic(auto, unfolding(crate::specs::Texts::tail))]
     pub(crate) fn close(self, out: &mut RunOutput)
-        requires { Sound (state out.old) 20 }
-        ensures { state out.new ≡ wrote (state out.old) tail }
+        requires { Sound (writer out.old) 20 }
+        ensures { writer out.new ≡ wrote (writer out.old) tail }
     {
         let RunGraph { open: () } = self;
         write(out, TAIL);
@@ -87,10 +87,10 @@ impl PartyNode {
     // The party's inner graph, or the token back where it does not fit. One body for this and `open_node` would take the line,
     // the closing and both tokens' types from its caller, and be no plainer.
     pub(crate) fn open_graph(self, out: &mut RunOutput, party: u16) -> Result<PartyGraph, PartyNode>
-        requires { Sound (state out.old) 28 }
-        ensures room { is_ok result ≡ has_room (state out.old).out (graph_line party) 9 }
-        ensures after { state out.new ≡ (if is_ok result then opened (state out.old) (graph_line party) 9 else state out.old) }
-        ensures sound { Sound (state out.new) (if is_ok result then 37 else 28) }
+        requires { Sound (writer out.old) 28 }
+        ensures room { is_ok result ≡ has_room (writer out.old).out (graph_line party) 9 }
+        ensures after { writer out.new ≡ (if is_ok result then opened (writer out.old) (graph_line party) 9 else writer out.old) }
+        ensures sound { Sound (writer out.new) (if is_ok result then 37 else 28) }
     {
         match begin(out, lines::graph_line(party).as_slice(), 9) {
             Ok(()) => Ok(PartyGraph { outer: self }),
@@ -99,9 +99,9 @@ impl PartyNode {
     }
 
     pub(crate) fn close(self, out: &mut RunOutput) -> RunGraph
-        requires { Sound (state out.old) 28 }
-        ensures after { state out.new ≡ wrote (state out.old) node_end }
-        ensures sound { Sound (state out.new) 20 }
+        requires { Sound (writer out.old) 28 }
+        ensures after { writer out.new ≡ wrote (writer out.old) node_end }
+        ensures sound { Sound (writer out.new) 20 }
     {
         let PartyNode { outer } = self;
         write(out, b"</node>\n");
@@ -117,11 +117,11 @@ impl PartyGraph {
         place: usize,
         happening: &Happening,
     ) -> Result<(), Cut>
-        requires { Sound (state out.old) 37 }
-        ensures whole { is_ok result ≡ all_fits spelling (state out.old).out.room (one (happened place happening.now)) }
-        ensures after { state out.new ≡ drawn (state out.old) (one (happened place happening.now)) }
-        ensures numbers { Each Fits (kept spelling (state out.old).out.room (one (happened place happening.now))) }
-        ensures sound { Sound (state out.new) 37 }
+        requires { Sound (writer out.old) 37 }
+        ensures whole { is_ok result ≡ all_fits spelling (writer out.old).out.room (one (happened place happening.now)) }
+        ensures after { writer out.new ≡ drawn (writer out.old) (one (happened place happening.now)) }
+        ensures numbers { Each Fits (fitting_part spelling (writer out.old).out.room (one (happened place happening.now))) }
+        ensures sound { Sound (writer out.new) 37 }
     {
         begin(out, lines::happening_line(place, happening).as_slice(), 0)?;
         out.counts.happenings += 1;
@@ -129,9 +129,9 @@ impl PartyGraph {
     }
 
     pub(crate) fn close(self, out: &mut RunOutput) -> PartyNode
-        requires { Sound (state out.old) 37 }
-        ensures after { state out.new ≡ wrote (state out.old) graph_end }
-        ensures sound { Sound (state out.new) 28 }
+        requires { Sound (writer out.old) 37 }
+        ensures after { writer out.new ≡ wrote (writer out.old) graph_end }
+        ensures sound { Sound (writer out.new) 28 }
     {
         let PartyGraph { outer } = self;
         write(out, b"</graph>\n");

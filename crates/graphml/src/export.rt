@@ -1,7 +1,7 @@
 // The run of a group, out of its log.
 ghost use Rattle.std.specs.Prelude.{◌≡◌, ◌-◌, true, false, length, take, IfOk};
 ghost use Rattle.slots.specs.Slots.{items};
-ghost use Rattle.protocol.specs.Views.{play};
+ghost use Rattle.protocol.specs.Views.{state_of};
 ghost use Rattle.graphml.specs.Body.{body};
 ghost use Rattle.markup.specs.Closing.{Closes};
 ghost use Rattle.graphml.specs.Log.{ShowsTheLog};
@@ -23,8 +23,8 @@ pub fn export<P: Pace>(
     log: &SlotList<'_, Happening>,
     out: &mut [u8],
 ) -> Result<Exported, Refusal>
-    ensures answer { result ≡ export_answer (play group.now.table log.now) group.now.plan.n (length out.old) }
-    ensures bytes { out.new ≡ export_bytes (play group.now.table log.now) group.now.plan.n out.old }
+    ensures answer { result ≡ export_answer (state_of group.now.table log.now) group.now.plan.n (length out.old) }
+    ensures bytes { out.new ≡ export_bytes (state_of group.now.table log.now) group.now.plan.n out.old }
     ensures whole { IfOk result (λ x. x.whole ≡ true →
         take x.bytes out.new ≡ in_frame (body (items log.now) group.now.plan.n)) }
     ensures cut { IfOk result (λ x. x.whole ≡ false →

@@ -2,8 +2,8 @@
 ghost use Rattle.std.specs.Prelude.{◌≡◌, is_ok};
 ghost use Rattle.graphml.specs.Numbers.{Fits};
 ghost use Rattle.graphml.specs.Body.{happenings_of, edges_from, is_arrived, party_then, body};
-ghost use Rattle.graphml.specs.State.{state, Sound, drawn};
-ghost use Rattle.markup.specs.Cut.{all_fits, kept};
+ghost use Rattle.graphml.specs.Writer.{writer, Sound, drawn};
+ghost use Rattle.markup.specs.Cut.{all_fits, fitting_part};
 ghost use Rattle.markup.specs.Forests.{none, Each};
 ghost use Rattle.graphml.specs.Elements.{spelling};
 
@@ -19,11 +19,11 @@ fn write_happenings(
     log: &[Happening],
     party: u16,
 ) -> Result<(), Cut>
-    requires { Sound (state out.old) 37 }
-    ensures whole { is_ok result ≡ all_fits spelling (state out.old).out.room (happenings_of party 0 log.now) }
-    ensures after { state out.new ≡ drawn (state out.old) (happenings_of party 0 log.now) }
-    ensures numbers { Each Fits (kept spelling (state out.old).out.room (happenings_of party 0 log.now)) }
-    ensures sound { Sound (state out.new) 37 }
+    requires { Sound (writer out.old) 37 }
+    ensures whole { is_ok result ≡ all_fits spelling (writer out.old).out.room (happenings_of party 0 log.now) }
+    ensures after { writer out.new ≡ drawn (writer out.old) (happenings_of party 0 log.now) }
+    ensures numbers { Each Fits (fitting_part spelling (writer out.old).out.room (happenings_of party 0 log.now)) }
+    ensures sound { Sound (writer out.new) 37 }
 {
     for (place, happening) in log.iter().enumerate() {
         if u16::from(happening.owner) == party {
@@ -40,11 +40,11 @@ fn write_party(
     log: &[Happening],
     party: u16,
 ) -> Result<RunGraph, RunGraph>
-    requires { Sound (state out.old) 20 }
-    ensures whole { is_ok result ≡ all_fits spelling (state out.old).out.room (party_then log.now party none) }
-    ensures after { state out.new ≡ drawn (state out.old) (party_then log.now party none) }
-    ensures numbers { Each Fits (kept spelling (state out.old).out.room (party_then log.now party none)) }
-    ensures sound { Sound (state out.new) 20 }
+    requires { Sound (writer out.old) 20 }
+    ensures whole { is_ok result ≡ all_fits spelling (writer out.old).out.room (party_then log.now party none) }
+    ensures after { writer out.new ≡ drawn (writer out.old) (party_then log.now party none) }
+    ensures numbers { Each Fits (fitting_part spelling (writer out.old).out.room (party_then log.now party none)) }
+    ensures sound { Sound (writer out.new) 20 }
 {
     let node = run.open_node(out, party)?;
     let graph = match node.open_graph(out, party) {
@@ -62,11 +62,11 @@ fn write_party(
 
 // An edge for each arrival, in log order, up to the first that does not fit.
 fn write_edges(out: &mut RunOutput, run: &RunGraph, log: &[Happening]) -> Result<(), Cut>
-    requires { Sound (state out.old) 20 }
-    ensures whole { is_ok result ≡ all_fits spelling (state out.old).out.room (edges_from 0 log.now) }
-    ensures after { state out.new ≡ drawn (state out.old) (edges_from 0 log.now) }
-    ensures numbers { Each Fits (kept spelling (state out.old).out.room (edges_from 0 log.now)) }
-    ensures sound { Sound (state out.new) 20 }
+    requires { Sound (writer out.old) 20 }
+    ensures whole { is_ok result ≡ all_fits spelling (writer out.old).out.room (edges_from 0 log.now) }
+    ensures after { writer out.new ≡ drawn (writer out.old) (edges_from 0 log.now) }
+    ensures numbers { Each Fits (fitting_part spelling (writer out.old).out.room (edges_from 0 log.now)) }
+    ensures sound { Sound (writer out.new) 20 }
 {
     for (place, happening) in log.iter().enumerate() {
         if is_arrived(happening.kind) {
@@ -89,11 +89,11 @@ pub(crate) fn write_body(
     log: &[Happening],
     parties: u8,
 ) -> Result<RunGraph, RunGraph>
-    requires { Sound (state out.old) 20 }
-    ensures whole { is_ok result ≡ all_fits spelling (state out.old).out.room (body log.now parties) }
-    ensures after { state out.new ≡ drawn (state out.old) (body log.now parties) }
-    ensures numbers { Each Fits (kept spelling (state out.old).out.room (body log.now parties)) }
-    ensures sound { Sound (state out.new) 20 }
+    requires { Sound (writer out.old) 20 }
+    ensures whole { is_ok result ≡ all_fits spelling (writer out.old).out.room (body log.now parties) }
+    ensures after { writer out.new ≡ drawn (writer out.old) (body log.now parties) }
+    ensures numbers { Each Fits (fitting_part spelling (writer out.old).out.room (body log.now parties)) }
+    ensures sound { Sound (writer out.new) 20 }
 {
     for party in 0..=u16::from(parties) {
         run = write_party(out, run, log, party)?;

@@ -1,6 +1,7 @@
 -- A group with its log: what it goes by, where it stands, and what a call does to it.
-use Rattle.std.specs.Prelude.{◌≡◌, ℕ, Result}
+use Rattle.std.specs.Prelude.{◌≡◌, Result}
 use Rattle.pace.specs.Meaning.{Meaning}
+use Rattle.protocol.specs.Rules.{Rules}
 use Rattle.pace.specs.declared.meaning.Pace.{Ghosts}
 use Rattle.slots.specs.declared.SlotList.{SlotList}
 use Rattle.slots.specs.Slots.{capacity, Extends}
@@ -8,24 +9,22 @@ use Rattle.protocol.specs.declared.happening.Happening.{Happening}
 use Rattle.protocol.specs.declared.plan.Plan.{Plan}
 use Rattle.protocol.specs.declared.call.Call.{Call}
 use Rattle.protocol.specs.declared.refusal.Refusal.{Refusal}
-use Rattle.protocol.specs.Answers.{told}
-use Rattle.protocol.specs.Group.{Play}
+use Rattle.protocol.specs.Answers.{number_told}
 use Rattle.protocol.specs.Runs.{number, perform}
-use Rattle.protocol.specs.Views.{play}
+use Rattle.protocol.specs.Views.{state_of}
 use Rattle.group.specs.declared.group.Group.{Group}
+use Rattle.protocol.specs.State.{State}
 
--- what a group goes by and no call changes
-pub record Rules : Type 0 where
-  pub meaning : Meaning
-  pub plan : Plan
-  pub room : ℕ
+-- what a run goes by: what the pace means, the plan, and the slots of the log
+abbrev pub rules_by : Meaning → Plan → SlotList Happening → Rules
+rules_by m plan l = record { meaning = m; plan = plan; room = capacity l }
 
 abbrev pub rules : {A : Type 0} {d : Ghosts A} → Group A d → SlotList Happening → Rules
-rules {d = d} g l = record { meaning = d.means g.pace; plan = g.plan; room = capacity l }
+rules {d = d} g l = rules_by (d.means g.pace) g.plan l
 
 -- what its calls change
-abbrev pub state : {A : Type 0} {d : Ghosts A} → Group A d → SlotList Happening → Play
-state g l = play g.table l
+abbrev pub state : {A : Type 0} {d : Ghosts A} → Group A d → SlotList Happening → State
+state g l = state_of g.table l
 
 -- the same pace and plan over the same slots, where no record goes and none past the last changes
 pub record Stays {A : Type 0} {d : Ghosts A} (g g' : Group A d) (l l' : SlotList Happening)
@@ -39,5 +38,5 @@ pub record Stays {A : Type 0} {d : Ghosts A} (g g' : Group A d) (l l' : SlotList
 pub record Does {A : Type 0} {d : Ghosts A} (call : Call) (g g' : Group A d)
     (l l' : SlotList Happening) (answer : Result (Unit {0}) Refusal) : Type 0 where
   pub stays : Stays g g' l l'
-  pub number : told answer ≡ number g.plan (capacity l) call (state g l)
-  pub after : state g' l' ≡ perform (d.means g.pace) g.plan (capacity l) call (state g l)
+  pub number : number_told answer ≡ number (rules g l) call (state g l)
+  pub after : state g' l' ≡ perform (rules g l) call (state g l)

@@ -4,7 +4,7 @@ use Rattle.pace.specs.Meaning.{Meaning}
 use Rattle.protocol.specs.declared.party.Party.{Party}
 use Rattle.protocol.specs.declared.plan.Plan.{Plan}
 use Rattle.protocol.specs.declared.table.Table.{Table}
-use Rattle.protocol.specs.Patience.{patience}
+use Rattle.protocol.specs.Rules.{patience}
 use Rattle.protocol.specs.Party.{live, nobody}
 
 -- a live party has heard nothing for so many ticks
@@ -16,4 +16,5 @@ pub record DoesFor (m : Meaning) (plan : Plan) (t : Table) (d : ℕ) : Type 0 wh
   pub some : 0 < d
   pub most : d ≤ patience m plan.kind
   pub alike : (k : ℕ) → k < plan.n →
-      silent_for d t.clock (slice_index_or t.parties k nobody) ≡ silent_for (patience m plan.kind) t.clock (slice_index_or t.parties k nobody)
+      silent_for d t.clock (slice_index_or t.parties k nobody)
+      ≡ silent_for (patience m plan.kind) t.clock (slice_index_or t.parties k nobody)

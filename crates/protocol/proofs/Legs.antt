@@ -5,7 +5,7 @@ use Rattle.protocol.specs.declared.party.Party.{Party}
 use Rattle.protocol.specs.declared.party.Beat.{Beat}
 use Rattle.protocol.specs.declared.happening.Happening.{Happening}
 use Rattle.protocol.specs.Party.{party, legs_of, on_leg, off_leg, off_out, off_reply, off_entry}
-use Rattle.protocol.specs.Group.{sender}
+use Rattle.protocol.specs.calls.Lose.{sender}
 use Rattle.protocol.specs.Beats.{SentBy}
 
 -- a beat that was sent on leg w of party i, no earlier than place lo of the log

@@ -16,15 +16,20 @@ use Rattle.protocol.specs.declared.table.Root.TheVariants.{Running, Down}
 use Rattle.protocol.specs.declared.kind.GroupKind.{GroupKind}
 use Rattle.protocol.specs.declared.happening.HappeningKind.TheVariants.{Sent, Arrived, Lost}
 use Rattle.protocol.specs.declared.happening.Happening.{Happening}
-use Rattle.protocol.specs.declared.plan.Plan.{Plan}
 use Rattle.protocol.specs.declared.call.Call.{Call}
 use Rattle.protocol.specs.declared.call.Call.TheVariants.{Tick, Deliver, Lose, Crash, Join, Leave}
 use Rattle.pace.specs.Meaning.{Meaning}
-use Rattle.protocol.specs.Patience.{trip, patience}
+use Rattle.protocol.specs.Rules.{trip, patience, Rules}
 use Rattle.protocol.specs.Walk.{folds, walks}
-use Rattle.protocol.specs.Party.{nobody, fresh, on_leg, off_leg, off_out, off_reply, off_entry, arrives, hears_as, heeds, joined, missed, sends, sends_as, on_roll, missed_all, times, times_as, times_live, calls_in, live}
-use Rattle.protocol.specs.Group.{Play, the, happens, tells_of, links, sender, answer_log, runs, delivered_as, lost_as, crashed, joins, leaves, any, shortest, counted, send_log, sent, stopped, started, settled_as, rounded_as, rounded, round_ends, live_word, tells_if, timer_log, timed, later, opened}
-use Rattle.protocol.specs.Runs.{number, done, unless, perform, played}
+use Rattle.protocol.specs.Party.{nobody, fresh, on_leg, off_leg, off_out, off_reply, off_entry, on_roll, live}
+use Rattle.protocol.specs.calls.Deliver.{arrives, hears_as, heeds, answer_log, after_arrival}
+use Rattle.protocol.specs.calls.Join.{joined, after_join}
+use Rattle.protocol.specs.calls.Tick.{missed, sends, sends_as, missed_all, times, times_as, times_live, calls_in, any, shortest, after_count, send_log, after_sending, after_stop, after_start, after_verdict_of, after_round_if, after_round, round_ends, live_word, tells_if, timer_log, after_timers, after_clock, after_tick}
+use Rattle.protocol.specs.State.{State, the, happening, with_record, with_linked, runs, opening}
+use Rattle.protocol.specs.calls.Lose.{sender, after_loss_of}
+use Rattle.protocol.specs.calls.Crash.{after_crash}
+use Rattle.protocol.specs.calls.Leave.{after_leave}
+use Rattle.protocol.specs.Runs.{number, effect, unless, perform, state_after}
 use Rattle.protocol.specs.Beats.{is_arrival, is_loss, settles, nothing, happening_at, SentBy, OtherEnd, Linked, LossesLinked, SettledOnce, Unsettled, Edge, edge, edges, PutBy}
 use Rattle.protocol.specs.Order.{InOrder}
 use Rattle.protocol.proofs.Onward.{Onward, stay, further, told, arrived, edges_same, sent_push, keeps_push, every_push, order_push, linked_push, losses_push, onward_linked, onward_losses, folds_onward, folds_between}
@@ -38,7 +43,7 @@ beat_edge None k = []
 beat_edge (Some b) k = edge b.place k ∷ []
 
 -- the edge of a delivery that is not refused: from the sending of the beat on the leg to the log's next place
-abbrev pub delivery : Call → ℕ → Play → List Edge
+abbrev pub delivery : Call → ℕ → State → List Edge
 delivery Tick k s = []
 delivery (Deliver i leg) zero s = beat_edge (on_leg leg (the i s.table)) (length s.log)
 delivery (Deliver i leg) (suc k) s = []
@@ -48,16 +53,16 @@ delivery (Join i) k s = []
 delivery (Leave i) k s = []
 
 -- the edges of the deliveries of a run, told by making all its calls again
-abbrev pub deliveries : Meaning → Plan → ℕ → List Call → Play → List Edge
-deliveries m plan room [] s = []
-deliveries m plan room (call ∷ calls) s = delivery call (number plan room call s) s ++ deliveries m plan room calls (perform m plan room call s)
+abbrev pub deliveries : Rules → List Call → State → List Edge
+deliveries rules [] s = []
+deliveries rules (call ∷ calls) s = delivery call (number rules call s) s ++ deliveries rules calls (perform rules call s)
 
 -- the parties and the length of the log at some moment before
 pub record Moment : Type 0 where
   pub parties : List Party
   pub place : ℕ
 
-abbrev pub at : Play → Moment
+abbrev pub at : State → Moment
 at s = record { parties = s.table.parties; place = length s.log }
 
 -- what holds between the log, at clock c, and the beats on the legs of the first n parties, since a moment before
@@ -278,7 +283,7 @@ module _ (c : ℕ) where
   -- the turn of one party in a pass
 
   sends_turn : (roll : Roll) (last j : ℕ) (p : Party) (log : List Happening) →
-      Turned 1 j (length log) (cond (on_roll roll) (tells_of c 0 Sent log) log) p (sends_as roll last (length log) p)
+      Turned 1 j (length log) (cond (on_roll roll) (with_record c 0 Sent log) log) p (sends_as roll last (length log) p)
   sends_turn On last j p log = put_out j _ _ p _ (omega arith) (sent_push log c 0 _)
   sends_turn Off last j p log = stays j _ _ 1 p
   sends_turn Struck last j p log = stays j _ _ 1 p
@@ -298,20 +303,20 @@ module _ (c : ℕ) where
   -- what follows an arrival
 
   follows_onward : (x : Bool) (r : Root) (i place : ℕ) (b : Beat) (p : Party) (log : List Happening) →
-      Onward c (links c (cond x i 0) Arrived place log)
+      Onward c (with_linked c (cond x i 0) Arrived place log)
       (cond x
-      (cond (live p.own.standing) (tells_of c i Sent (links c i Arrived place log)) (links c i Arrived place log))
-      (cond (runs r) (answer_log p.note.roll b.parting c i (links c 0 Arrived place log)) (links c 0 Arrived place log)))
+      (cond (live p.own.standing) (with_record c i Sent (with_linked c i Arrived place log)) (with_linked c i Arrived place log))
+      (cond (runs r) (answer_log p.note.roll b.parting c i (with_linked c 0 Arrived place log)) (with_linked c 0 Arrived place log)))
   follows_onward true r i place b p log = cond_onward (live p.own.standing) _ _ (told c _ _ refl refl)
   follows_onward false r i place b p log = cond_onward (runs r) _ _ (answer_onward p.note.roll b.parting i _)
 
   hears_turn : (st : Standing) (i place l : ℕ) (p : Party) (log : List Happening) →
-      Turned 2 i (length (links c i Arrived place log)) (cond (live st) (tells_of c i Sent (links c i Arrived place log)) (links c i Arrived place log))
+      Turned 2 i (length (with_linked c i Arrived place log)) (cond (live st) (with_record c i Sent (with_linked c i Arrived place log)) (with_linked c i Arrived place log))
       p (hears_as st c (length log + 1) l p)
   hears_turn Outside i place l p log = stays i _ _ 2 p
   hears_turn (Live g) i place l p log =
-      let e = length_push log (happens c i Arrived place) in
-      put_reply i _ _ p _ (omega (arith, e)) (subst (SentBy (tells_of c i Sent (links c i Arrived place log)) i) e (sent_push (links c i Arrived place log) c i _))
+      let e = length_push log (happening c i Arrived place) in
+      put_reply i _ _ p _ (omega (arith, e)) (subst (SentBy (with_record c i Sent (with_linked c i Arrived place log)) i) e (sent_push (with_linked c i Arrived place log) c i _))
   hears_turn (Ended how at g) i place l p log = stays i _ _ 2 p
 
   heeds_turn : (r : Root) (parting : Bool) (i lo : ℕ) (log : List Happening) (p : Party) → Turned 2 i lo log p (heeds r parting p)
@@ -320,102 +325,108 @@ module _ (c : ℕ) where
 
   follows_turn : (x y z : Bool) (r : Root) (b : Beat) (i : ℕ) (p : Party) (log : List Happening) →
       let off = cond x (off_out p) (cond y (off_reply p) (cond z (off_entry p) p)) in
-      Turned 2 i (length (links c (cond x i 0) Arrived b.place log))
+      Turned 2 i (length (with_linked c (cond x i 0) Arrived b.place log))
       (cond x
-      (cond (live p.own.standing) (tells_of c i Sent (links c i Arrived b.place log)) (links c i Arrived b.place log))
-      (cond (runs r) (answer_log p.note.roll b.parting c i (links c 0 Arrived b.place log)) (links c 0 Arrived b.place log)))
+      (cond (live p.own.standing) (with_record c i Sent (with_linked c i Arrived b.place log)) (with_linked c i Arrived b.place log))
+      (cond (runs r) (answer_log p.note.roll b.parting c i (with_linked c 0 Arrived b.place log)) (with_linked c 0 Arrived b.place log)))
       off (cond x (hears_as p.own.standing c (length log + 1) b.last (off_out p)) (cond y (heeds r b.parting (off_reply p)) (cond z (heeds r b.parting (off_entry p)) p)))
   follows_turn true y z r b i p log = hears_turn p.own.standing i b.place b.last (off_out p) log
   follows_turn false true z r b i p log = heeds_turn r b.parting i _ _ (off_reply p)
   follows_turn false false true r b i p log = heeds_turn r b.parting i _ _ (off_entry p)
   follows_turn false false false r b i p log = stays i _ _ 2 p
 
-module _ (o : Moment) (n : ℕ) where
-  abbrev Holds : Play → Type 0
+module _ (o : Moment) (rules : Rules) where
+  abbrev n : ℕ
+  n = rules.plan.n
+
+  abbrev m : Meaning
+  m = rules.meaning
+
+  abbrev Holds : State → Type 0
   Holds s = Told o n s.table.clock s.table.parties s.log
 
   -- after a call: what holds, and the edges that came
-  abbrev Next : Play → Play → List Edge → Type 0
+  abbrev Next : State → State → List Edge → Type 0
   Next s s' es = Holds s' × (edges 0 s'.log ≡ edges 0 s.log ++ es)
 
   -- a call that neither delivers nor loses
-  abbrev Goes : Play → Play → Type 0
+  abbrev Goes : State → State → Type 0
   Goes s s' = Holds s' × Onward s.table.clock s.log s'.log
 
-  quietly : (s s' : Play) → Holds s' → edges 0 s'.log ≡ edges 0 s.log → Next s s' []
+  quietly : (s s' : State) → Holds s' → edges 0 s'.log ≡ edges 0 s.log → Next s s' []
   quietly s s' t e = (t, e ∙ sym (append-nil (edges 0 s.log)))
 
-  onward : (s s' : Play) → Goes s s' → Next s s' []
+  onward : (s s' : State) → Goes s s' → Next s s' []
   onward s s' g = quietly s s' g.0 g.1.same
 
-  pub held_at : (s : Play) (i leg : ℕ) (b : Beat) → 1 ≤ i → i ≤ n → Holds s → on_leg leg (the i s.table) ≡ Some b → SentBy s.log (sender leg i) b.place
+  pub held_at : (s : State) (i leg : ℕ) (b : Beat) → 1 ≤ i → i ≤ n → Holds s → on_leg leg (the i s.table) ≡ Some b → SentBy s.log (sender leg i) b.place
   held_at s i leg b lo hi t e = subst (λ j. SentBy s.log (sender leg j) b.place) (omega arith) (t.carried (i - 1) leg b (omega arith) e)
 
   ends_of : (x : Bool) (i : ℕ) → 1 ≤ i → i ≤ n → OtherEnd n (cond x 0 i) (cond x i 0)
   ends_of true i lo hi = record { at_root = λ e. absurd (omega arith); at_party = λ e. (hi, refl) }
   ends_of false i lo hi = record { at_root = λ e. (lo, hi); at_party = λ e. absurd (omega arith) }
 
-  delivers : (x : Option Beat) (i leg : ℕ) (s : Play) → on_leg leg (the i s.table) ≡ x → 1 ≤ i → i ≤ n → Holds s → Next s (delivered_as x i leg s) (beat_edge x (length s.log))
+  delivers : (x : Option Beat) (i leg : ℕ) (s : State) → on_leg leg (the i s.table) ≡ x → 1 ≤ i → i ≤ n → Holds s → Next s (after_arrival x i leg s) (beat_edge x (length s.log))
   delivers None i leg s e lo hi t = (t, sym (append-nil (edges 0 s.log)))
   delivers (Some b) i leg s e lo hi t =
       let c = s.table.clock in
       let r = s.table.root in
       let p = the i s.table in
       let x = eqb leg 1 in
-      let h = happens c (cond x i 0) Arrived b.place in
+      let h = happening c (cond x i 0) Arrived b.place in
       let w = follows_onward c x r i b.place b p s.log in
       let arrival = settles_it o n c i leg b h s.table.parties s.log lo hi t e refl refl
       (λ _. (cond x 0 i, held_at s i leg b lo hi t e, ends_of x i lo hi)) (λ is. absurd (grind arith)) in (
-        turns_two o n c 2 i (off_leg leg p) (arrives c r leg b (length s.log + 1) p) s.table.parties (links c (cond x i 0) Arrived b.place s.log) _ lo hi w arrival
+        turns_two o n c 2 i (off_leg leg p) (arrives c r leg b (length s.log + 1) p) s.table.parties (with_linked c (cond x i 0) Arrived b.place s.log) _ lo hi w arrival
             (follows_turn c x (eqb leg 2) (eqb leg 3) r b i p s.log),
         w.same ∙ arrived s.log c (cond x i 0) b.place,
       )
 
-  loses_one : (x : Option Beat) (i leg : ℕ) (s : Play) → on_leg leg (the i s.table) ≡ x → 1 ≤ i → i ≤ n → Holds s → Next s (lost_as x i leg s) []
+  loses_one : (x : Option Beat) (i leg : ℕ) (s : State) → on_leg leg (the i s.table) ≡ x → 1 ≤ i → i ≤ n → Holds s → Next s (after_loss_of x i leg s) []
   loses_one None i leg s e lo hi t = quietly s s t refl
   loses_one (Some b) i leg s e lo hi t =
-      let h = happens s.table.clock (sender leg i) Lost b.place in
-      quietly s (lost_as (Some b) i leg s)
+      let h = happening s.table.clock (sender leg i) Lost b.place in
+      quietly s (after_loss_of (Some b) i leg s)
       (settles_it o n _ i leg b h s.table.parties s.log lo hi t e refl refl (λ is. absurd (grind arith)) (λ _. held_at s i leg b lo hi t e)) (edges_same s.log h refl)
 
-  crashes_one : (i : ℕ) (s : Play) → i ≤ n → Holds s → Next s (crashed i s) []
+  crashes_one : (i : ℕ) (s : State) → i ≤ n → Holds s → Next s (after_crash i s) []
   crashes_one zero s hi t =
-      let w = told s.table.clock s.log (happens s.table.clock 0 _ (length s.log)) refl refl in onward s (crashed zero s) (idles o n _ s.table.parties s.log _ w t, w)
+      let w = told s.table.clock s.log (happening s.table.clock 0 _ (length s.log)) refl refl in onward s (after_crash zero s) (idles o n _ s.table.parties s.log _ w t, w)
   crashes_one (suc i) s hi t =
-      let w = told s.table.clock s.log (happens s.table.clock (suc i) _ (length s.log)) refl refl in
-      onward s (crashed (suc i) s) (turns_one o n _ 0 (suc i) _ s.table.parties s.log _ (omega arith) hi w t (stays (suc i) _ _ 0 (the (suc i) s.table)), w)
+      let w = told s.table.clock s.log (happening s.table.clock (suc i) _ (length s.log)) refl refl in
+      onward s (after_crash (suc i) s) (turns_one o n _ 0 (suc i) _ s.table.parties s.log _ (omega arith) hi w t (stays (suc i) _ _ 0 (the (suc i) s.table)), w)
 
-  leaves_one : (i : ℕ) (s : Play) → 1 ≤ i → i ≤ n → Holds s → Next s (leaves i s) []
+  leaves_one : (i : ℕ) (s : State) → 1 ≤ i → i ≤ n → Holds s → Next s (after_leave i s) []
   leaves_one i s lo hi t =
-      let w = told s.table.clock s.log (happens s.table.clock i _ (length s.log)) refl refl in
-      onward s (leaves i s) (turns_one o n _ 0 i _ s.table.parties s.log _ lo hi w t (stays i _ _ 0 (the i s.table)), w)
+      let w = told s.table.clock s.log (happening s.table.clock i _ (length s.log)) refl refl in
+      onward s (after_leave i s) (turns_one o n _ 0 i _ s.table.parties s.log _ lo hi w t (stays i _ _ 0 (the i s.table)), w)
 
-  joins_one : (m : Meaning) (i : ℕ) (s : Play) → 1 ≤ i → i ≤ n → Holds s → Next s (joins m i s) []
-  joins_one m i s lo hi t =
+  joins_one : (i : ℕ) (s : State) → 1 ≤ i → i ≤ n → Holds s → Next s (after_join (trip rules.meaning) i s) []
+  joins_one i s lo hi t =
       let c = s.table.clock in
-      let joining = tells_of c i _ s.log in
-      let w = further c s.log joining (tells_of c i Sent joining) (told c s.log _ refl refl) (told c joining _ refl refl) in
-      let e = length_push s.log (happens c i _ (length s.log)) in
-      onward s (joins m i s) (
+      let joining = with_record c i _ s.log in
+      let w = further c s.log joining (with_record c i Sent joining) (told c s.log _ refl refl) (told c joining _ refl refl) in
+      let e = length_push s.log (happening c i _ (length s.log)) in
+      onward s (after_join (trip rules.meaning) i s) (
         turns_one o n c 3 i (joined c (c + trip m) (length s.log + 1) (the i s.table)) s.table.parties s.log _ lo hi w t
-            (put_entry i _ _ (the i s.table) _ (omega arith) (subst (SentBy (tells_of c i Sent joining) i) e (sent_push joining c i _))),
+            (put_entry i _ _ (the i s.table) _ (omega arith) (subst (SentBy (with_record c i Sent joining) i) e (sent_push joining c i _))),
         w,
       )
 
   -- a tick
 
-  counts : (s : Play) → Holds s → Goes s (counted n s)
+  counts : (s : State) → Holds s → Goes s (after_count n s)
   counts s t =
       let f = λ (_ u : ℕ) (p : Party). missed p in
       let g = λ (_ u : ℕ) (_ : Party). u in
       let w = stay s.table.clock s.log in (
-        moves o n s.table.clock 0 s.table.parties (counted n s).table.parties s.log s.log (λ k x. k ≡ 0) w t (λ j k x e f. e ∙ sym f)
+        moves o n s.table.clock 0 s.table.parties (after_count n s).table.parties s.log s.log (λ k x. k ≡ 0) w t (λ j k x e f. e ∙ sym f)
             (λ k leg b h e. inl (subst (λ p. on_leg leg p ≡ Some b) (walks_at f g 1 n 0 s.table.parties nobody k h t.long) e))
             (walks_long f g 1 n 0 s.table.parties n t.long),
         w,
       )
 
-  starts : (last : ℕ) (s : Play) → Holds s → Goes s (sent last n s)
+  starts : (last : ℕ) (s : State) → Holds s → Goes s (after_sending last n s)
   starts last s t =
       let c = s.table.clock in
       let grows : (j : ℕ) (log : List Happening) (p : Party) → Onward c log (send_log c log p) = λ j log p. cond_onward c (on_roll p.note.roll) _ _ (told c log _ refl refl) in (
@@ -423,19 +434,19 @@ module _ (o : Moment) (n : ℕ) where
         folds_onward c (λ _ log p. send_log c log p) grows 1 n s.log s.table.parties,
       )
 
-  stops : (s : Play) → Holds s → Goes s (stopped s)
+  stops : (s : State) → Holds s → Goes s (after_stop s)
   stops s t =
-      let w = told s.table.clock s.log (happens s.table.clock 0 _ (length s.log)) refl refl in (idles o n _ s.table.parties s.log _ w t, w)
+      let w = told s.table.clock s.log (happening s.table.clock 0 _ (length s.log)) refl refl in (idles o n _ s.table.parties s.log _ w t, w)
 
-  settles_round : (b : Bool) (m : Meaning) (s : Play) → Holds s → Goes s (settled_as b m n s)
-  settles_round true m s t = stops s t
-  settles_round false m s t = starts (s.table.clock + trip m) (started (shortest m.waits m.tmax n s.table.parties) s) t
+  settles_round : (b : Bool) (s : State) → Holds s → Goes s (after_verdict_of b rules s)
+  settles_round true s t = stops s t
+  settles_round false s t = starts (s.table.clock + trip m) (after_start (shortest m.waits m.tmax n s.table.parties) s) t
 
-  rounds : (b : Bool) (m : Meaning) (s : Play) → Holds s → Goes s (rounded_as b m n s)
-  rounds true m s t = settles_round (any (missed_all (length m.waits)) n (counted n s).table.parties) m (counted n s) (counts s t).0
-  rounds false m s t = (t, stay s.table.clock s.log)
+  rounds : (b : Bool) (s : State) → Holds s → Goes s (after_round_if b rules s)
+  rounds true s t = settles_round (any (missed_all (length m.waits)) n (after_count n s).table.parties) (after_count n s) (counts s t).0
+  rounds false s t = (t, stay s.table.clock s.log)
 
-  times_all : (d l x : ℕ) (s : Play) → Holds s → Goes s (timed d l x n s)
+  times_all : (d l x : ℕ) (s : State) → Holds s → Goes s (after_timers d l x n s)
   times_all d l x s t =
       let c = s.table.clock in
       let f = λ (_ : ℕ) (log : List Happening) (p : Party). times c d l (c + x) (length log) p in
@@ -460,22 +471,22 @@ module _ (o : Moment) (n : ℕ) where
     long = t.long;
   }
 
-  ticks : (m : Meaning) (d : ℕ) (s : Play) → Holds s → Next s (later (timed d m.tmin (trip m) n (rounded m n s))) []
-  ticks m d s t =
-      let a = rounds (round_ends s.table) m s t in
-      let b = times_all d m.tmin (trip m) (rounded m n s) a.0 in
-      quietly s (later (timed d m.tmin (trip m) n (rounded m n s))) (ages _ _ _ b.0) (b.1.same ∙ a.1.same)
+  ticks : (s : State) → Holds s → Next s (after_tick rules s) []
+  ticks s t =
+      let a = rounds (round_ends s.table) s t in
+      let b = times_all (patience m rules.plan.kind) m.tmin (trip m) (after_round rules s) a.0 in
+      quietly s (after_tick rules s) (ages _ _ _ b.0) (b.1.same ∙ a.1.same)
 
-module _ (m : Meaning) (plan : Plan) (room : ℕ) where
-  does : (o : Moment) (call : Call) (s : Play) → number plan room call s ≡ 0 → Holds o plan.n s → Next o plan.n s (done m plan call s) (delivery call 0 s)
-  does o Tick s e t = ticks o plan.n m (patience m plan.kind) s t
-  does o (Deliver i leg) s e t = let a = asked_party plan.n i _ e in delivers o plan.n (on_leg leg (the i s.table)) i leg s refl a.0 a.1 t
-  does o (Lose i leg) s e t = let a = asked_party plan.n i _ e in loses_one o plan.n (on_leg leg (the i s.table)) i leg s refl a.0 a.1 t
-  does o (Crash i) s e t = crashes_one o plan.n i s (asked_low plan.n i _ e) t
-  does o (Join i) s e t = let a = asked_party plan.n i _ e in joins_one o plan.n m i s a.0 a.1 t
-  does o (Leave i) s e t = let a = asked_party plan.n i _ e in leaves_one o plan.n i s a.0 a.1 t
+module _ (rules : Rules) where
+  does : (o : Moment) (call : Call) (s : State) → number rules call s ≡ 0 → Holds o rules s → Next o rules s (effect rules call s) (delivery call 0 s)
+  does o Tick s e t = ticks o rules s t
+  does o (Deliver i leg) s e t = let a = asked_party rules.plan.n i _ e in delivers o rules (on_leg leg (the i s.table)) i leg s refl a.0 a.1 t
+  does o (Lose i leg) s e t = let a = asked_party rules.plan.n i _ e in loses_one o rules (on_leg leg (the i s.table)) i leg s refl a.0 a.1 t
+  does o (Crash i) s e t = crashes_one o rules i s (asked_low rules.plan.n i _ e) t
+  does o (Join i) s e t = let a = asked_party rules.plan.n i _ e in joins_one o rules i s a.0 a.1 t
+  does o (Leave i) s e t = let a = asked_party rules.plan.n i _ e in leaves_one o rules i s a.0 a.1 t
 
-  refused : (call : Call) (k : ℕ) (s : Play) → delivery call (suc k) s ≡ []
+  refused : (call : Call) (k : ℕ) (s : State) → delivery call (suc k) s ≡ []
   refused Tick k s = refl
   refused (Deliver i leg) k s = refl
   refused (Lose i leg) k s = refl
@@ -483,12 +494,12 @@ module _ (m : Meaning) (plan : Plan) (room : ℕ) where
   refused (Join i) k s = refl
   refused (Leave i) k s = refl
 
-  performs : (o : Moment) (call : Call) (s : Play) (k : ℕ) → number plan room call s ≡ k → Holds o plan.n s → Next o plan.n s (unless k s (done m plan call s)) (delivery call k s)
+  performs : (o : Moment) (call : Call) (s : State) (k : ℕ) → number rules call s ≡ k → Holds o rules s → Next o rules s (unless k s (effect rules call s)) (delivery call k s)
   performs o call s zero e t = does o call s e t
   performs o call s (suc k) e t = (t, sym (append-nil (edges 0 s.log)) ∙ ap (λ es. edges 0 s.log ++ es) (sym (refused call k s)))
 
   -- what holds since any moment holds since the present one
-  holds_now : (o : Moment) (s : Play) → Holds o plan.n s → Holds (at s) plan.n s
+  holds_now : (o : Moment) (s : State) → Holds o rules s → Holds (at s) rules s
   holds_now o s t = record {
     since = omega arith;
     older = λ k leg b h e. inl e;
@@ -502,46 +513,46 @@ module _ (m : Meaning) (plan : Plan) (room : ℕ) where
     long = t.long;
   }
 
-  abbrev Now : Play → Type 0
-  Now s = Holds (at s) plan.n s
+  abbrev Now : State → Type 0
+  Now s = Holds (at s) rules s
 
-  plays : (calls : List Call) (s : Play) → Now s → let s' = played m plan room calls s in Now s' × (edges 0 s'.log ≡ edges 0 s.log ++ deliveries m plan room calls s)
+  plays : (calls : List Call) (s : State) → Now s → let s' = state_after rules calls s in Now s' × (edges 0 s'.log ≡ edges 0 s.log ++ deliveries rules calls s)
   plays [] s t = (t, sym (append-nil (edges 0 s.log)))
   plays (call ∷ calls) s t =
-      let k = number plan room call s in
-      let s' = perform m plan room call s in
+      let k = number rules call s in
+      let s' = perform rules call s in
       let a = performs (at s) call s k refl t in
       let b = plays calls s' (holds_now (at s) s' a.0) in
-      (b.0, b.1 ∙ ap (λ es. es ++ deliveries m plan room calls s') a.1 ∙ append_assoc (edges 0 s.log) (delivery call k s) (deliveries m plan room calls s'))
+      (b.0, b.1 ∙ ap (λ es. es ++ deliveries rules calls s') a.1 ∙ append_assoc (edges 0 s.log) (delivery call k s) (deliveries rules calls s'))
 
   -- a beat on a leg stood there before the calls, or one of them put it there
-  pub puts : (calls : List Call) (s : Play) (i leg : ℕ) (b : Beat) → Now s → 1 ≤ i → i ≤ plan.n → on_leg leg (the i (played m plan room calls s).table) ≡ Some b →
-      (on_leg leg (the i s.table) ≡ Some b) ⊎ PutBy m plan room s calls i leg b
+  pub puts : (calls : List Call) (s : State) (i leg : ℕ) (b : Beat) → Now s → 1 ≤ i → i ≤ rules.plan.n → on_leg leg (the i (state_after rules calls s).table) ≡ Some b →
+      (on_leg leg (the i s.table) ≡ Some b) ⊎ PutBy rules s calls i leg b
   puts [] s i leg b t lo hi e = inl e
   puts (call ∷ calls) s i leg b t lo hi e =
       elim (puts calls s' i leg b t' lo hi e) [
         | inl old ↦ first old
-        | inr later ↦ inr (record {
-          before = call ∷ later.before;
-          call = later.call;
-          after = later.after;
-          among = ap (λ cs. call ∷ cs) later.among;
-          not_yet = later.not_yet;
-          written = later.written;
-          put = later.put;
+        | inr after_clock ↦ inr (record {
+          before = call ∷ after_clock.before;
+          call = after_clock.call;
+          after = after_clock.after;
+          among = ap (λ cs. call ∷ cs) after_clock.among;
+          not_yet = after_clock.not_yet;
+          written = after_clock.written;
+          put = after_clock.put;
         })
       ]
     where
-      s' : Play
-      s' = perform m plan room call s
+      s' : State
+      s' = perform rules call s
 
-      made : Next (at s) plan.n s s' (delivery call (number plan room call s) s)
-      made = performs (at s) call s (number plan room call s) refl t
+      made : Next (at s) rules s s' (delivery call (number rules call s) s)
+      made = performs (at s) call s (number rules call s) refl t
 
       t' : Now s'
       t' = holds_now (at s) s' made.0
 
-      first : on_leg leg (the i s'.table) ≡ Some b → (on_leg leg (the i s.table) ≡ Some b) ⊎ PutBy m plan room s (call ∷ calls) i leg b
+      first : on_leg leg (the i s'.table) ≡ Some b → (on_leg leg (the i s.table) ≡ Some b) ⊎ PutBy rules s (call ∷ calls) i leg b
       first now = elim (made.0.older (i - 1) leg b (omega arith) now) [
         | inl old ↦ inl old
         | inr fresh ↦ inr (record {
@@ -550,7 +561,7 @@ module _ (m : Meaning) (plan : Plan) (room : ℕ) where
           after = calls;
           among = refl;
           not_yet = fresh;
-          written = held_at (at s') plan.n s' i leg b lo hi t' now;
+          written = held_at (at s') rules s' i leg b lo hi t' now;
           put = now;
         })
       ]
@@ -560,12 +571,12 @@ module _ (m : Meaning) (plan : Plan) (room : ℕ) where
   bare : (kind : GroupKind) (x y z : Bool) (b : Beat) → cond x (fresh kind).legs.out (cond y (fresh kind).legs.reply (cond z (fresh kind).legs.entry None)) ≡ Some b → ⊥
   bare kind x y z b e = grind arith
 
-  empty : (k leg : ℕ) (b : Beat) → k < plan.n → on_leg leg (get_or (opened m plan).table.parties k nobody) ≡ Some b → ⊥
+  empty : (k leg : ℕ) (b : Beat) → k < rules.plan.n → on_leg leg (get_or (opening rules).table.parties k nobody) ≡ Some b → ⊥
   empty k leg b h e =
-      bare plan.kind (eqb leg 1) (eqb leg 2) (eqb leg 3) b
-      (subst (λ p. on_leg leg p ≡ Some b) (get_or-replicate 32 k (fresh plan.kind) nobody (omega (arith, plan.few))) e)
+      bare rules.plan.kind (eqb leg 1) (eqb leg 2) (eqb leg 3) b
+      (subst (λ p. on_leg leg p ≡ Some b) (get_or-replicate 32 k (fresh rules.plan.kind) nobody (omega (arith, rules.plan.few))) e)
 
-  opens : Now (opened m plan)
+  opens : Now (opening rules)
   opens = record {
     since = omega arith;
     older = λ k leg b h e. inl e;
@@ -576,20 +587,20 @@ module _ (m : Meaning) (plan : Plan) (room : ℕ) where
     carried = λ k leg b h e. absurd (empty k leg b h e);
     under_way = λ k leg b h e. absurd (empty k leg b h e);
     apart = λ k leg b k' leg' b' h h' e e' same. absurd (empty k leg b h e);
-    long = omega (arith, plan.few);
+    long = omega (arith, rules.plan.few);
   }
 
   -- what holds after every run, and the edges of its log
-  pub after : (calls : List Call) → let s = played m plan room calls (opened m plan) in Now s × (edges 0 s.log ≡ deliveries m plan room calls (opened m plan))
-  after calls = plays calls (opened m plan) opens
+  pub after : (calls : List Call) → let s = state_after rules calls (opening rules) in Now s × (edges 0 s.log ≡ deliveries rules calls (opening rules))
+  after calls = plays calls (opening rules) opens
 
   -- a beat on a leg of a new group's run was put there by one of its calls
-  pub put_by : (calls : List Call) (i leg : ℕ) (b : Beat) → 1 ≤ i → i ≤ plan.n → on_leg leg (the i (played m plan room calls (opened m plan)).table) ≡ Some b →
-      PutBy m plan room (opened m plan) calls i leg b
+  pub put_by : (calls : List Call) (i leg : ℕ) (b : Beat) → 1 ≤ i → i ≤ rules.plan.n → on_leg leg (the i (state_after rules calls (opening rules)).table) ≡ Some b →
+      PutBy rules (opening rules) calls i leg b
   put_by calls i leg b lo hi e =
-      elim (puts calls (opened m plan) i leg b opens lo hi e) [ inl old ↦ absurd (empty (i - 1) leg b (omega arith) old) | inr put ↦ put ]
+      elim (puts calls (opening rules) i leg b opens lo hi e) [ inl old ↦ absurd (empty (i - 1) leg b (omega arith) old) | inr put ↦ put ]
 
   -- and the log holds its sending
-  pub held : (calls : List Call) (i leg : ℕ) (b : Beat) → 1 ≤ i → i ≤ plan.n → let s = played m plan room calls (opened m plan) in
+  pub held : (calls : List Call) (i leg : ℕ) (b : Beat) → 1 ≤ i → i ≤ rules.plan.n → let s = state_after rules calls (opening rules) in
       on_leg leg (the i s.table) ≡ Some b → SentBy s.log (sender leg i) b.place
-  held calls i leg b lo hi e = let s = played m plan room calls (opened m plan) in held_at (at s) plan.n s i leg b lo hi (after calls).0 e
+  held calls i leg b lo hi e = let s = state_after rules calls (opening rules) in held_at (at s) rules s i leg b lo hi (after calls).0 e

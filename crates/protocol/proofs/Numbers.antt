@@ -4,7 +4,7 @@ use Rattle.std.proofs.lemmas.List.Sums.{sum_by-drop_more, sum_by-take-drop, get_
 use Rattle.protocol.specs.declared.kind.GroupKind.{GroupKind}
 use Rattle.protocol.specs.declared.kind.GroupKind.TheVariants.{Closed, Expanding, Dynamic}
 use Rattle.pace.specs.Meaning.{Meaning, Lawful}
-use Rattle.protocol.specs.Patience.{patience}
+use Rattle.protocol.specs.Rules.{patience}
 use Rattle.protocol.specs.Kept.{LawfulTerms, Bears, terms}
 
 bears_it : (m : Meaning) (kind : GroupKind) → Bears kind (patience m kind) (m.tmax + sum m.waits) m.tmin

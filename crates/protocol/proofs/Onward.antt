@@ -6,8 +6,8 @@ use Rattle.std.proofs.lemmas.List.{append-nil, length_push, get_or_append_left, 
 use Rattle.protocol.specs.declared.happening.HappeningKind.TheVariants.{Sent, Arrived}
 use Rattle.protocol.specs.declared.happening.Happening.{Happening}
 use Rattle.protocol.specs.Walk.{folds}
-use Rattle.protocol.specs.Group.{happens, links}
-use Rattle.protocol.specs.Runs.{tick_of}
+use Rattle.protocol.specs.State.{happening, with_linked}
+use Rattle.protocol.specs.Questions.{tick_of}
 use Rattle.protocol.specs.Beats.{is_arrival, is_loss, settles, nothing, happening_at, SentBy, OtherEnd, LinkedAt, LostAt, Linked, LossesLinked, edge, edges}
 use Rattle.protocol.specs.Order.{InOrder}
 use Rattle.protocol.proofs.Lifts.{get_or_any}
@@ -75,10 +75,10 @@ module _ (log : List Happening) (h : Happening) where
       (λ k below is. let l = old k below is in record { earlier = l.earlier; sending = keeps_push _ _ l.sending })
       (λ is. let l = new is in record { earlier = l.below; sending = keeps_push _ _ l })
 
-pub sent_push : (log : List Happening) (c o l : ℕ) → SentBy (log ++ happens c o Sent l ∷ []) o (length log)
+pub sent_push : (log : List Happening) (c o l : ℕ) → SentBy (log ++ happening c o Sent l ∷ []) o (length log)
 sent_push log c o l =
-    let e = get_or_push log (happens c o Sent l) nothing (length log) refl in
-    record { below = omega (arith, length_push log (happens c o Sent l)); kind = ap (λ (x : Happening). x.kind) e; owner = ap (λ (x : Happening). x.owner) e }
+    let e = get_or_push log (happening c o Sent l) nothing (length log) refl in
+    record { below = omega (arith, length_push log (happening c o Sent l)); kind = ap (λ (x : Happening). x.kind) e; owner = ap (λ (x : Happening). x.owner) e }
 
 edges_append : (k : ℕ) (xs ys : List Happening) → edges k (xs ++ ys) ≡ edges k xs ++ edges (k + length xs) ys
 edges_append k [] ys = rw add-zero
@@ -98,8 +98,8 @@ edges_push log h = edges_append 0 log (h ∷ []) ∙ ap (λ j. edges 0 log ++ co
 pub edges_same : (log : List Happening) (h : Happening) → is_arrival h.kind ≡ false → edges 0 (log ++ h ∷ []) ≡ edges 0 log
 edges_same log h e = edges_push log h ∙ ap (λ b. edges 0 log ++ cond b (edge h.link (length log) ∷ []) []) e ∙ append-nil (edges 0 log)
 
-pub arrived : (log : List Happening) (c r place : ℕ) → edges 0 (links c r Arrived place log) ≡ edges 0 log ++ edge place (length log) ∷ []
-arrived log c r place = edges_push log (happens c r Arrived place)
+pub arrived : (log : List Happening) (c r place : ℕ) → edges 0 (with_linked c r Arrived place log) ≡ edges 0 log ++ edge place (length log) ∷ []
+arrived log c r place = edges_push log (happening c r Arrived place)
 
 settles_neither : (a b : Bool) → (a || b) ≡ false → a ≡ false
 settles_neither true b e = e

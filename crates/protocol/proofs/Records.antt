@@ -15,15 +15,18 @@ use Rattle.protocol.specs.declared.table.Root.{Root}
 use Rattle.protocol.specs.declared.happening.HappeningKind.{HappeningKind}
 use Rattle.protocol.specs.declared.happening.HappeningKind.TheVariants.{Sent, Arrived, Lost}
 use Rattle.protocol.specs.declared.happening.Happening.{Happening}
-use Rattle.protocol.specs.declared.plan.Plan.{Plan}
 use Rattle.protocol.specs.declared.call.Call.{Call}
 use Rattle.protocol.specs.declared.call.Call.TheVariants.{Tick, Deliver, Lose, Crash, Join, Leave}
 use Rattle.pace.specs.Meaning.{Meaning}
-use Rattle.protocol.specs.Patience.{trip, patience}
+use Rattle.protocol.specs.Rules.{trip, patience, Rules}
 use Rattle.protocol.specs.Walk.{folds}
-use Rattle.protocol.specs.Party.{on_leg, on_roll, missed_all, live, calls_in}
-use Rattle.protocol.specs.Group.{Play, the, happens, tells_of, links, sender, answer_log, arrival_log, runs, delivered_as, lost_as, crashed, any, shortest, counted, send_log, sent, live_word, started, settled_as, rounded_as, rounded, round_ends, tells_if, timer_log, timed, opened}
-use Rattle.protocol.specs.Runs.{number, done, unless, perform, played}
+use Rattle.protocol.specs.Party.{on_leg, on_roll, live}
+use Rattle.protocol.specs.calls.Tick.{missed_all, calls_in, any, shortest, after_count, send_log, after_sending, live_word, after_start, after_verdict_of, after_round_if, after_round, round_ends, tells_if, timer_log, after_timers}
+use Rattle.protocol.specs.State.{State, the, happening, with_record, with_linked, runs, opening}
+use Rattle.protocol.specs.calls.Lose.{sender, after_loss_of}
+use Rattle.protocol.specs.calls.Deliver.{answer_log, arrival_log, after_arrival}
+use Rattle.protocol.specs.calls.Crash.{after_crash}
+use Rattle.protocol.specs.Runs.{number, effect, unless, perform, state_after}
 use Rattle.protocol.specs.Beats.{settles, nothing, happening_at, SentBy}
 use Rattle.protocol.specs.Order.{OwnedUpTo}
 use Rattle.protocol.specs.Deliveries.{receiver, ArrivedBy}
@@ -65,9 +68,9 @@ arrived_still log log' c o k g a =
       owner = ap (λ (h : Happening). h.owner) e ∙ a.owner;
     }
 
-pub arrived_push : (log : List Happening) (c o place : ℕ) → ArrivedBy (links c o Arrived place log) c o (length log)
+pub arrived_push : (log : List Happening) (c o place : ℕ) → ArrivedBy (with_linked c o Arrived place log) c o (length log)
 arrived_push log c o place =
-    let h = happens c o Arrived place in
+    let h = happening c o Arrived place in
     let e = get_or_push log h nothing (length log) refl in
     record {
       below = omega (arith, length_push log h);
@@ -113,10 +116,16 @@ module _ (Q : Happening → Type 0) where
 weaken : (Q R : Happening → Type 0) (log log' : List Happening) → ((h : Happening) → Q h → R h) → Grown Q log log' → Grown R log log'
 weaken Q R log log' f g = record { longer = g.longer; kept = g.kept; fresh = λ k lo hi. f _ (g.fresh k lo hi) }
 
-module _ (n : ℕ) (S : ℕ → Type 0) where
+module _ (rules : Rules) (S : ℕ → Type 0) where
+  abbrev n : ℕ
+  n = rules.plan.n
+
+  abbrev m : Meaning
+  m = rules.meaning
+
   -- a record of an owner up to n that settles nothing
-  writes : (c : ℕ) (log : List Happening) (i : ℕ) (w : HappeningKind) (l : ℕ) → i ≤ n → settles w ≡ false → Grown (Wrote n c S) log (log ++ happens c i w l ∷ [])
-  writes c log i w l h none = pushes (Wrote n c S) log (happens c i w l) (h, refl, λ is. absurd (clash _ is none))
+  writes : (c : ℕ) (log : List Happening) (i : ℕ) (w : HappeningKind) (l : ℕ) → i ≤ n → settles w ≡ false → Grown (Wrote n c S) log (log ++ happening c i w l ∷ [])
+  writes c log i w l h none = pushes (Wrote n c S) log (happening c i w l) (h, refl, λ is. absurd (clash _ is none))
 
   -- deliver, lose
 
@@ -129,14 +138,14 @@ module _ (n : ℕ) (S : ℕ → Type 0) where
 
   -- what follows the record of the arrival
   pub follows : (c : ℕ) (r : Root) (leg : ℕ) (b : Beat) (i : ℕ) (p : Party) (log : List Happening) → i ≤ n →
-      Grown (Wrote n c S) (links c (receiver leg i) Arrived b.place log) (arrival_log c r leg b i p log)
+      Grown (Wrote n c S) (with_linked c (receiver leg i) Arrived b.place log) (arrival_log c r leg b i p log)
   follows c r leg b i p log h = go (eqb leg 1)
     where
       go : (x : Bool) →
-          Grown (Wrote n c S) (links c (cond x i 0) Arrived b.place log)
+          Grown (Wrote n c S) (with_linked c (cond x i 0) Arrived b.place log)
           (cond x
-          (cond (live p.own.standing) (tells_of c i Sent (links c i Arrived b.place log)) (links c i Arrived b.place log))
-          (cond (runs r) (answer_log p.note.roll b.parting c i (links c 0 Arrived b.place log)) (links c 0 Arrived b.place log)))
+          (cond (live p.own.standing) (with_record c i Sent (with_linked c i Arrived b.place log)) (with_linked c i Arrived b.place log))
+          (cond (runs r) (answer_log p.note.roll b.parting c i (with_linked c 0 Arrived b.place log)) (with_linked c 0 Arrived b.place log)))
       go true = conds _ (live p.own.standing) _ _ _ (writes c _ i _ _ h refl) (stays _ _)
       go false = conds _ (runs r) _ _ _ (answer_grows p.note.roll b.parting c i _ h) (stays _ _)
 
@@ -148,19 +157,19 @@ module _ (n : ℕ) (S : ℕ → Type 0) where
   other_end_of true i h = omega arith
   other_end_of false i h = h
 
-  delivers : (o : Option Beat) (i leg : ℕ) (s : Play) → i ≤ n → ((b : Beat) → o ≡ Some b → S b.place) → Grown (Wrote n s.table.clock S) s.log (delivered_as o i leg s).log
+  delivers : (o : Option Beat) (i leg : ℕ) (s : State) → i ≤ n → ((b : Beat) → o ≡ Some b → S b.place) → Grown (Wrote n s.table.clock S) s.log (after_arrival o i leg s).log
   delivers None i leg s h of_one = stays _ s.log
   delivers (Some b) i leg s h of_one =
       let t = s.table in
-      further _ _ _ _ (pushes _ s.log (happens t.clock (receiver leg i) Arrived b.place) (end_of (eqb leg 1) i h, refl, λ is. of_one b refl))
+      further _ _ _ _ (pushes _ s.log (happening t.clock (receiver leg i) Arrived b.place) (end_of (eqb leg 1) i h, refl, λ is. of_one b refl))
       (follows t.clock t.root leg b i (the i t) s.log h)
 
-  loses_one : (o : Option Beat) (i leg : ℕ) (s : Play) → i ≤ n → ((b : Beat) → o ≡ Some b → S b.place) → Grown (Wrote n s.table.clock S) s.log (lost_as o i leg s).log
+  loses_one : (o : Option Beat) (i leg : ℕ) (s : State) → i ≤ n → ((b : Beat) → o ≡ Some b → S b.place) → Grown (Wrote n s.table.clock S) s.log (after_loss_of o i leg s).log
   loses_one None i leg s h of_one = stays _ s.log
   loses_one (Some b) i leg s h of_one =
-      pushes _ s.log (happens s.table.clock (sender leg i) Lost b.place) (other_end_of (eqb leg 1) i h, refl, λ is. of_one b refl)
+      pushes _ s.log (happening s.table.clock (sender leg i) Lost b.place) (other_end_of (eqb leg 1) i h, refl, λ is. of_one b refl)
 
-  crashes : (i : ℕ) (s : Play) → i ≤ n → Grown (Wrote n s.table.clock S) s.log (crashed i s).log
+  crashes : (i : ℕ) (s : State) → i ≤ n → Grown (Wrote n s.table.clock S) s.log (after_crash i s).log
   crashes zero s h = writes s.table.clock s.log 0 _ _ h refl
   crashes (suc i) s h = writes s.table.clock s.log (suc i) _ _ h refl
 
@@ -181,61 +190,61 @@ module _ (n : ℕ) (S : ℕ → Type 0) where
   timer_grows (Live g) c d l since i log h = live_grows (leb d (c - since)) (calls_in g l (c - since)) g c i log h
   timer_grows (Ended how at g) c d l since i log h = stays _ log
 
-  starts : (last : ℕ) (s : Play) → Grown (Wrote n s.table.clock S) s.log (sent last n s).log
+  starts : (last : ℕ) (s : State) → Grown (Wrote n s.table.clock S) s.log (after_sending last n s).log
   starts last s =
       let c = s.table.clock in
       folds_grow (Wrote n c S) n (λ _ log p. send_log c log p)
       (λ j log p h. conds _ (on_roll p.note.roll) _ _ _ (writes c log 0 _ _ (omega arith) refl) (stays _ log))
       1 n s.log s.table.parties (omega arith)
 
-  settles_round : (b : Bool) (m : Meaning) (s : Play) → Grown (Wrote n s.table.clock S) s.log (settled_as b m n s).log
-  settles_round true m s = writes s.table.clock s.log 0 _ _ (omega arith) refl
-  settles_round false m s = starts (s.table.clock + trip m) (started (shortest m.waits m.tmax n s.table.parties) s)
+  settles_round : (b : Bool) (s : State) → Grown (Wrote n s.table.clock S) s.log (after_verdict_of b rules s).log
+  settles_round true s = writes s.table.clock s.log 0 _ _ (omega arith) refl
+  settles_round false s = starts (s.table.clock + trip m) (after_start (shortest m.waits m.tmax n s.table.parties) s)
 
-  rounds : (b : Bool) (m : Meaning) (s : Play) → Grown (Wrote n s.table.clock S) s.log (rounded_as b m n s).log
-  rounds true m s = settles_round (any (missed_all (length m.waits)) n (counted n s).table.parties) m (counted n s)
-  rounds false m s = stays _ s.log
+  rounds : (b : Bool) (s : State) → Grown (Wrote n s.table.clock S) s.log (after_round_if b rules s).log
+  rounds true s = settles_round (any (missed_all (length m.waits)) n (after_count n s).table.parties) (after_count n s)
+  rounds false s = stays _ s.log
 
-  timers : (d l x : ℕ) (s : Play) → Grown (Wrote n s.table.clock S) s.log (timed d l x n s).log
+  timers : (d l x : ℕ) (s : State) → Grown (Wrote n s.table.clock S) s.log (after_timers d l x n s).log
   timers d l x s =
       let c = s.table.clock in
       folds_grow (Wrote n c S) n (λ i log (p : Party). timer_log p.own.standing c d l p.own.since i log)
       (λ j log p h. timer_grows p.own.standing c d l p.own.since j log h)
       1 n s.log s.table.parties (omega arith)
 
-module _ (m : Meaning) (plan : Plan) (room : ℕ) where
+module _ (rules : Rules) where
   -- what a granted call writes
-  pub does : (call : Call) (s : Play) → number plan room call s ≡ 0 → Grown (Wrote plan.n s.table.clock (UnderWay plan.n s.table)) s.log (done m plan call s).log
+  pub does : (call : Call) (s : State) → number rules call s ≡ 0 → Grown (Wrote rules.plan.n s.table.clock (UnderWay rules.plan.n s.table)) s.log (effect rules call s).log
   does Tick s e =
-      let S = UnderWay plan.n s.table in
-      let r = rounded m plan.n s in
-      further _ _ _ _ (rounds plan.n S (round_ends s.table) m s)
-      (subst (λ c. Grown (Wrote plan.n c S) r.log (timed (patience m plan.kind) m.tmin (trip m) plan.n r).log) (rounded_clock m plan.n (round_ends s.table) s)
-      (timers plan.n S (patience m plan.kind) m.tmin (trip m) r))
+      let S = UnderWay rules.plan.n s.table in
+      let r = after_round rules s in
+      further _ _ _ _ (rounds rules S (round_ends s.table) s)
+      (subst (λ c. Grown (Wrote rules.plan.n c S) r.log (after_timers (patience rules.meaning rules.plan.kind) rules.meaning.tmin (trip rules.meaning) rules.plan.n r).log) (rounded_clock rules (round_ends s.table) s)
+      (timers rules S (patience rules.meaning rules.plan.kind) rules.meaning.tmin (trip rules.meaning) r))
   does (Deliver i leg) s e =
-      let a = asked_party plan.n i _ e in
-      delivers plan.n _ (on_leg leg (the i s.table)) i leg s a.1 (λ b on. record { party = i; leg = leg; beat = b; of_a_party = a; stands = on; sent_there = refl })
+      let a = asked_party rules.plan.n i _ e in
+      delivers rules _ (on_leg leg (the i s.table)) i leg s a.1 (λ b on. record { party = i; leg = leg; beat = b; of_a_party = a; stands = on; sent_there = refl })
   does (Lose i leg) s e =
-      let a = asked_party plan.n i _ e in
-      loses_one plan.n _ (on_leg leg (the i s.table)) i leg s a.1 (λ b on. record { party = i; leg = leg; beat = b; of_a_party = a; stands = on; sent_there = refl })
-  does (Crash i) s e = crashes plan.n _ i s (asked_low plan.n i _ e)
+      let a = asked_party rules.plan.n i _ e in
+      loses_one rules _ (on_leg leg (the i s.table)) i leg s a.1 (λ b on. record { party = i; leg = leg; beat = b; of_a_party = a; stands = on; sent_there = refl })
+  does (Crash i) s e = crashes rules _ i s (asked_low rules.plan.n i _ e)
   does (Join i) s e =
-      let a = asked_party plan.n i _ e in
+      let a = asked_party rules.plan.n i _ e in
       let c = s.table.clock in
-      further _ _ _ _ (writes plan.n _ c s.log i _ _ a.1 refl) (writes plan.n _ c _ i _ _ a.1 refl)
-  does (Leave i) s e = writes plan.n _ s.table.clock s.log i _ _ (asked_party plan.n i _ e).1 refl
+      further _ _ _ _ (writes rules _ c s.log i _ _ a.1 refl) (writes rules _ c _ i _ _ a.1 refl)
+  does (Leave i) s e = writes rules _ s.table.clock s.log i _ _ (asked_party rules.plan.n i _ e).1 refl
 
-  performs_as : (call : Call) (s : Play) (k : ℕ) → number plan room call s ≡ k → Grown (OwnedBy plan.n) s.log (unless k s (done m plan call s)).log
+  performs_as : (call : Call) (s : State) (k : ℕ) → number rules call s ≡ k → Grown (OwnedBy rules.plan.n) s.log (unless k s (effect rules call s)).log
   performs_as call s zero e =
-      weaken (Wrote plan.n s.table.clock (UnderWay plan.n s.table)) (OwnedBy plan.n) s.log (done m plan call s).log (λ h w. w.0) (does call s e)
+      weaken (Wrote rules.plan.n s.table.clock (UnderWay rules.plan.n s.table)) (OwnedBy rules.plan.n) s.log (effect rules call s).log (λ h w. w.0) (does call s e)
   performs_as call s (suc k) e = stays _ s.log
 
-  pub performs : (call : Call) (s : Play) → Grown (OwnedBy plan.n) s.log (perform m plan room call s).log
-  performs call s = performs_as call s (number plan room call s) refl
+  pub performs : (call : Call) (s : State) → Grown (OwnedBy rules.plan.n) s.log (perform rules call s).log
+  performs call s = performs_as call s (number rules call s) refl
 
-  pub plays : (calls : List Call) (s : Play) → Grown (OwnedBy plan.n) s.log (played m plan room calls s).log
+  pub plays : (calls : List Call) (s : State) → Grown (OwnedBy rules.plan.n) s.log (state_after rules calls s).log
   plays [] s = stays _ s.log
-  plays (call ∷ calls) s = further _ _ _ _ (performs call s) (plays calls (perform m plan room call s))
+  plays (call ∷ calls) s = further _ _ _ _ (performs call s) (plays calls (perform rules call s))
 
-  pub owned : (calls : List Call) → OwnedUpTo plan.n (played m plan room calls (opened m plan)).log
-  owned calls k h = (plays calls (opened m plan)).fresh k (omega arith) h
+  pub owned : (calls : List Call) → OwnedUpTo rules.plan.n (state_after rules calls (opening rules)).log
+  owned calls k h = (plays calls (opening rules)).fresh k (omega arith) h

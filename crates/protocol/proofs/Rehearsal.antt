@@ -1,10 +1,10 @@
 -- A run step by step, and its promise.
 use Rattle.std.proofs.Common.{◌≡◌, ℕ, zero, suc, List, [], ◌∷◌, ◌++◌, map, get_or, set, sym, refl, ap, ◌∙◌, subst, subst₂}
-use Rattle.protocol.specs.declared.plan.Plan.{Plan}
 use Rattle.protocol.specs.declared.call.Step.{Step}
-use Rattle.pace.specs.Meaning.{Meaning, Lawful}
-use Rattle.protocol.specs.Group.{Play, opened}
-use Rattle.protocol.specs.Answers.{told}
+use Rattle.pace.specs.Meaning.{Lawful}
+use Rattle.protocol.specs.Rules.{Rules}
+use Rattle.protocol.specs.State.{State, opening}
+use Rattle.protocol.specs.Answers.{number_told}
 use Rattle.protocol.specs.Runs.{number, perform}
 use Rattle.protocol.specs.Laws.{EndTogetherForCause}
 use Rattle.protocol.specs.Beats.{BeatsAreLogged, SendingsSettleOnce}
@@ -31,44 +31,44 @@ map_set f [] i y d e = refl
 map_set f (x ∷ xs) zero y d e = ap (λ z. z ∷ map f xs) e
 map_set f (x ∷ xs) (suc i) y d e = ap (λ zs. f x ∷ zs) (map_set f xs i y d e)
 
-module _ (m : Meaning) (plan : Plan) (room : ℕ) where
+module _ (rules : Rules) where
   -- one step more
-  pub more : (s : Play) (xs : List Step) (s' : Play) (x : Step) (s'' : Play) → Rehearsed m plan room s xs s' → told x.answer ≡ number plan room x.call s' →
-      s'' ≡ perform m plan room x.call s' → Rehearsed m plan room s (xs ++ (x ∷ [])) s''
-  more s [] s' x s'' h a e = (subst (λ t. told x.answer ≡ number plan room x.call t) h a, e ∙ ap (perform m plan room x.call) h)
-  more s (y ∷ ys) s' x s'' h a e = (h.0, more (perform m plan room y.call s) ys s' x s'' h.1 a e)
+  pub more : (s : State) (xs : List Step) (s' : State) (x : Step) (s'' : State) → Rehearsed rules s xs s' → number_told x.answer ≡ number rules x.call s' →
+      s'' ≡ perform rules x.call s' → Rehearsed rules s (xs ++ (x ∷ [])) s''
+  more s [] s' x s'' h a e = (subst (λ t. number_told x.answer ≡ number rules x.call t) h a, e ∙ ap (perform rules x.call) h)
+  more s (y ∷ ys) s' x s'' h a e = (h.0, more (perform rules y.call s) ys s' x s'' h.1 a e)
 
   -- some steps and then others
-  pub then : (s : Play) (xs : List Step) (s' : Play) (ys : List Step) (s'' : Play) → Rehearsed m plan room s xs s' → Rehearsed m plan room s' ys s'' → Rehearsed m plan room s (xs ++ ys) s''
-  then s [] s' ys s'' h k = subst (λ t. Rehearsed m plan room t ys s'') h k
-  then s (x ∷ xs) s' ys s'' h k = (h.0, then (perform m plan room x.call s) xs s' ys s'' h.1 k)
+  pub then : (s : State) (xs : List Step) (s' : State) (ys : List Step) (s'' : State) → Rehearsed rules s xs s' → Rehearsed rules s' ys s'' → Rehearsed rules s (xs ++ ys) s''
+  then s [] s' ys s'' h k = subst (λ t. Rehearsed rules t ys s'') h k
+  then s (x ∷ xs) s' ys s'' h k = (h.0, then (perform rules x.call s) xs s' ys s'' h.1 k)
 
   -- the promise of a run, over its steps
-  pub keeps : Lawful m → (xs : List Step) (s' : Play) → Rehearsed m plan room (opened m plan) xs s' → KeepsTheRules m plan room xs s'
+  pub keeps : Lawful rules.meaning → (xs : List Step) (s' : State) → Rehearsed rules (opening rules) xs s' → KeepsTheRules rules xs s'
   keeps sound xs s' h =
       let calls = map call_of xs in
-      let r = run_of m plan room (opened m plan) xs s' h in
+      let r = run_of rules (opening rules) xs s' h in
       let back = sym r.0 in
-      let e : EndTogetherForCause m plan calls (map answer_of xs) s' =
-      subst₂ (λ ks t. EndTogetherForCause m plan calls ks t) (sym r.1) back (laws m sound plan room calls) in
+      let e : EndTogetherForCause rules calls (map answer_of xs) s' =
+      subst₂ (λ ks t. EndTogetherForCause rules calls ks t) (sym r.1) back (laws rules sound calls) in
       record {
         by_the_rules = h;
-        clock_counts_the_granted_ticks = counts_ticks m plan room xs s' h;
+        clock_counts_the_granted_ticks = counts_ticks rules xs s' h;
         root_ends_within_D_of_a_party_on_the_roll = e.root_follows;
         parties_on_the_roll_end_within_D_and_a_trip_of_the_root = e.parties_follow;
         party_that_was_in_stops_no_earlier_than_the_root = e.stops_for_cause;
         nobody_stops_unharmed = e.none_stops_unharmed;
-        beats_go_back_to_their_sendings = subst (BeatsAreLogged plan) back (logs_beats m plan room calls);
-        no_sending_settles_twice = subst (SendingsSettleOnce plan) back (settle_once m sound plan room calls);
-        no_beat_vanishes = subst (NoBeatVanishes plan) back (no_beat_vanishes m sound plan room calls);
-        beats_come_in_time = subst (BeatsComeInTime m plan) back (in_time m sound plan room calls);
-        sends_fall_on_free_legs = λ before after call among. free_legs m sound plan room before call;
-        struck_is_for_good = strikes_for_good m sound plan room calls;
-        log_in_order = subst (LogInOrder plan) back (in_order m sound plan room calls);
-        log_tells_the_group = subst (TellsTheGroup plan) back (tells_the_group m sound plan room calls);
-        edges_are_the_granted_deliveries = are_the_deliveries m plan room xs s' h;
+        beats_go_back_to_their_sendings = subst (BeatsAreLogged rules) back (logs_beats rules calls);
+        no_sending_settles_twice = subst (SendingsSettleOnce rules) back (settle_once rules sound calls);
+        no_beat_vanishes = subst (NoBeatVanishes rules) back (no_beat_vanishes rules sound calls);
+        beats_come_in_time = subst (BeatsComeInTime rules) back (in_time rules sound calls);
+        sends_fall_on_free_legs = λ before after call among. free_legs rules sound before call;
+        struck_is_for_good = strikes_for_good rules sound calls;
+        log_in_order = subst (LogInOrder rules) back (in_order rules sound calls);
+        log_tells_the_group = subst (TellsTheGroup rules) back (tells_the_group rules sound calls);
+        edges_are_the_granted_deliveries = are_the_deliveries rules xs s' h;
       }
 
 pub shows : RunsShowTheirBeats
-shows m sound plan room steps s h =
-    (subst (BeatsAreLogged plan) (sym (run_of m plan room (opened m plan) steps s h).0) (logs_beats m plan room (map call_of steps)), are_the_deliveries m plan room steps s h)
+shows rules sound steps s h =
+    (subst (BeatsAreLogged rules) (sym (run_of rules (opening rules) steps s h).0) (logs_beats rules (map call_of steps)), are_the_deliveries rules steps s h)

@@ -14,15 +14,20 @@ use Rattle.protocol.specs.declared.table.Root.{Root}
 use Rattle.protocol.specs.declared.table.Root.TheVariants.{Running, Down}
 use Rattle.protocol.specs.declared.happening.HappeningKind.TheVariants.{Sent, Arrived, Lost, Struck as WasStruck, Enrolled, Crashed, Stopped, Left, Joining, Leaving}
 use Rattle.protocol.specs.declared.happening.Happening.{Happening}
-use Rattle.protocol.specs.declared.plan.Plan.{Plan}
 use Rattle.protocol.specs.declared.call.Call.{Call}
 use Rattle.protocol.specs.declared.call.Call.TheVariants.{Tick, Deliver, Lose, Crash, Join, Leave}
 use Rattle.pace.specs.Meaning.{Meaning, Lawful}
-use Rattle.protocol.specs.Patience.{trip, patience}
+use Rattle.protocol.specs.Rules.{trip, patience, Rules}
 use Rattle.protocol.specs.Walk.{folds, walks}
-use Rattle.protocol.specs.Party.{beat, party, legs_of, nobody, on_leg, off_leg, off_out, off_reply, off_entry, arrives, hears_as, heeds, joined, now_leaving, crashes, missed, sends, sends_as, on_roll, missed_all, times, times_as, times_live, calls_in, live}
-use Rattle.protocol.specs.Group.{Play, the, happens, tells_of, links, sender, answer_log, arrival_log, runs, delivered_as, lost_as, crashed, joins, leaves, any, shortest, counted, send_log, sent, started, settled_as, rounded_as, rounded, round_ends, live_word, tells_if, timer_log, timed, opened}
-use Rattle.protocol.specs.Runs.{number, done, unless, reached}
+use Rattle.protocol.specs.Party.{beat, party, legs_of, nobody, on_leg, off_leg, off_out, off_reply, off_entry, on_roll, live}
+use Rattle.protocol.specs.calls.Deliver.{arrives, hears_as, heeds, answer_log, arrival_log, after_arrival}
+use Rattle.protocol.specs.calls.Join.{joined, after_join}
+use Rattle.protocol.specs.calls.Leave.{now_leaving, after_leave}
+use Rattle.protocol.specs.calls.Crash.{crashes, after_crash}
+use Rattle.protocol.specs.calls.Tick.{missed, sends, sends_as, missed_all, times, times_as, times_live, calls_in, any, shortest, after_count, send_log, after_sending, after_start, after_verdict_of, after_round_if, after_round, round_ends, live_word, tells_if, timer_log, after_timers}
+use Rattle.protocol.specs.State.{State, the, happening, with_record, with_linked, runs, opening}
+use Rattle.protocol.specs.calls.Lose.{sender, after_loss_of}
+use Rattle.protocol.specs.Runs.{number, effect, unless, run_state}
 use Rattle.protocol.specs.Beats.{settles, nothing, happening_at, FreeFor}
 use Rattle.protocol.specs.Sendings.{SettledAt, UnderWay, RunsLetNoBeatVanish}
 use Rattle.protocol.proofs.Asked.{asked_party, asked_low}
@@ -172,10 +177,10 @@ module _ (G : ℕ → Type 0) where
 
   answer_log_tells : (roll : Roll) (b : Bool) (c j : ℕ) (log : List Happening) (p : Party) → Beside log p → Beside (answer_log roll b c j log) p
   answer_log_tells IsStruck b c j log p a = a
-  answer_log_tells On true c j log p a = tells p log (happens c j WasStruck (length log)) (λ is. absurd (grind arith)) a
-  answer_log_tells Off true c j log p a = tells p log (happens c j WasStruck (length log)) (λ is. absurd (grind arith)) a
+  answer_log_tells On true c j log p a = tells p log (happening c j WasStruck (length log)) (λ is. absurd (grind arith)) a
+  answer_log_tells Off true c j log p a = tells p log (happening c j WasStruck (length log)) (λ is. absurd (grind arith)) a
   answer_log_tells On false c j log p a = a
-  answer_log_tells Off false c j log p a = tells p log (happens c j Enrolled (length log)) (λ is. absurd (grind arith)) a
+  answer_log_tells Off false c j log p a = tells p log (happening c j Enrolled (length log)) (λ is. absurd (grind arith)) a
 
   heeds_keeps : (r : Root) (b : Bool) (p : Party) → Keeps p (heeds r b p)
   heeds_keeps Running b p leg d e = e
@@ -187,49 +192,49 @@ module _ (G : ℕ → Type 0) where
   heed (Down how at) roll b c j log p a = a
 
   hear : (st : Standing) (c l j place : ℕ) (log : List Happening) (p : Party) → p.legs.reply ≡ None → place ≡ length log → Beside log p →
-      Beside (cond (live st) (tells_of c j Sent log) log) (hears_as st c place l p)
+      Beside (cond (live st) (with_record c j Sent log) log) (hears_as st c place l p)
   hear Outside c l j place log p free at a = a
   hear (Live g) c l j place log p free at a =
       let p' = hears_as (Live g) c place l p in
       let d = unwrap_or p'.legs.reply (beat 0 false 0) in
-      puts p p' 2 d log (happens c j Sent (length log)) (keeps_reply p d free) refl at a
+      puts p p' 2 d log (happening c j Sent (length log)) (keeps_reply p d free) refl at a
   hear (Ended how e g) c l j place log p free at a = a
 
   -- of a beat on leg 1 (x), 2 (y) or 3 (z)
   follow : (x y z : Bool) (r : Root) (b : Beat) (c j : ℕ) (p : Party) (log : List Happening) → (x ≡ true → p.legs.reply ≡ None) →
       cond x p.legs.out (cond y p.legs.reply (cond z p.legs.entry None)) ≡ Some b →
-      Beside (links c (cond x j 0) Arrived b.place log) (cond x (off_out p) (cond y (off_reply p) (cond z (off_entry p) p))) →
+      Beside (with_linked c (cond x j 0) Arrived b.place log) (cond x (off_out p) (cond y (off_reply p) (cond z (off_entry p) p))) →
       Beside (cond x
-      (cond (live p.own.standing) (tells_of c j Sent (links c j Arrived b.place log)) (links c j Arrived b.place log))
-      (cond (runs r) (answer_log p.note.roll b.parting c j (links c 0 Arrived b.place log)) (links c 0 Arrived b.place log)))
+      (cond (live p.own.standing) (with_record c j Sent (with_linked c j Arrived b.place log)) (with_linked c j Arrived b.place log))
+      (cond (runs r) (answer_log p.note.roll b.parting c j (with_linked c 0 Arrived b.place log)) (with_linked c 0 Arrived b.place log)))
       (cond x (hears_as p.own.standing c (length log + 1) b.last (off_out p))
       (cond y (heeds r b.parting (off_reply p)) (cond z (heeds r b.parting (off_entry p)) p)))
   follow true y z r b c j p log free held a =
-      hear p.own.standing c b.last j (length log + 1) (links c j Arrived b.place log) (off_out p) (free refl) (sym (length_push log (happens c j Arrived b.place))) a
-  follow false true z r b c j p log free held a = heed r p.note.roll b.parting c j (links c 0 Arrived b.place log) (off_reply p) a
-  follow false false true r b c j p log free held a = heed r p.note.roll b.parting c j (links c 0 Arrived b.place log) (off_entry p) a
+      hear p.own.standing c b.last j (length log + 1) (with_linked c j Arrived b.place log) (off_out p) (free refl) (sym (length_push log (happening c j Arrived b.place))) a
+  follow false true z r b c j p log free held a = heed r p.note.roll b.parting c j (with_linked c 0 Arrived b.place log) (off_reply p) a
+  follow false false true r b c j p log free held a = heed r p.note.roll b.parting c j (with_linked c 0 Arrived b.place log) (off_entry p) a
   follow false false false r b c j p log free held a = absurd (grind arith)
 
   arrive : (leg : ℕ) (r : Root) (b : Beat) (c j : ℕ) (p : Party) (log : List Happening) → on_leg leg p ≡ Some b → (leg ≡ 1 → p.legs.reply ≡ None) →
       Beside log p → Beside (arrival_log c r leg b j p log) (arrives c r leg b (length log + 1) p)
   arrive leg r b c j p log held free a =
       follow (eqb leg 1) (eqb leg 2) (eqb leg 3) r b c j p log (λ is. free (grind (arith, nat_tests))) held
-      (takes leg p b log (happens c (cond (eqb leg 1) j 0) Arrived b.place) held refl (λ is. absurd (grind arith)) refl a)
+      (takes leg p b log (happening c (cond (eqb leg 1) j 0) Arrived b.place) held refl (λ is. absurd (grind arith)) refl a)
 
   -- a turn of the root's sending, and of a party's timer
 
   send : (roll : Roll) (c last : ℕ) (log : List Happening) (p : Party) → (roll ≡ On → p.legs.out ≡ None) → Beside log p →
-      Beside (cond (on_roll roll) (tells_of c 0 Sent log) log) (sends_as roll last (length log) p)
+      Beside (cond (on_roll roll) (with_record c 0 Sent log) log) (sends_as roll last (length log) p)
   send On c last log p free a =
       let d = beat last false (length log) in
-      puts p (sends_as On last (length log) p) 1 d log (happens c 0 Sent (length log)) (keeps_out p d (free refl)) refl refl a
+      puts p (sends_as On last (length log) p) 1 d log (happening c 0 Sent (length log)) (keeps_out p d (free refl)) refl refl a
   send Off c last log p free a = a
   send IsStruck c last log p free a = a
 
   silent : (g : Stage) (c j : ℕ) (log : List Happening) (p : Party) → Beside log p → Beside (tells_if (live_word true false g) c j log) p
-  silent Joins c j log p a = tells p log (happens c j Stopped (length log)) (λ is. absurd (grind arith)) a
-  silent In c j log p a = tells p log (happens c j Stopped (length log)) (λ is. absurd (grind arith)) a
-  silent Leaves c j log p a = tells p log (happens c j Left (length log)) (λ is. absurd (grind arith)) a
+  silent Joins c j log p a = tells p log (happening c j Stopped (length log)) (λ is. absurd (grind arith)) a
+  silent In c j log p a = tells p log (happening c j Stopped (length log)) (λ is. absurd (grind arith)) a
+  silent Leaves c j log p a = tells p log (happening c j Left (length log)) (λ is. absurd (grind arith)) a
 
   time_live : (ends calls : Bool) (g : Stage) (c last j : ℕ) (log : List Happening) (p : Party) → (calls ≡ true → p.legs.entry ≡ None) → Beside log p →
       Beside (tells_if (live_word ends calls g) c j log) (times_live ends calls g c last (length log) p)
@@ -237,7 +242,7 @@ module _ (G : ℕ → Type 0) where
       stays p (times_live true calls g c last (length log) p) _ (λ leg b e. e) (silent g c j log p a)
   time_live false true g c last j log p free a =
       let d = beat last false (length log) in
-      puts p (with_entry d p) 3 d log (happens c j Sent (length log)) (keeps_entry p d (free refl)) refl refl a
+      puts p (with_entry d p) 3 d log (happening c j Sent (length log)) (keeps_entry p d (free refl)) refl refl a
   time_live false false g c last j log p free a = a
 
   time : (st : Standing) (c d l last j : ℕ) (log : List Happening) (p : Party) →
@@ -353,65 +358,71 @@ calls_free Joins c tmin p f is calls = f is (grind (arith, nat_tests)) (grind (a
 calls_free In c tmin p f is calls = absurd (grind arith)
 calls_free Leaves c tmin p f is calls = absurd (grind arith)
 
-module _ (n : ℕ) where
-  abbrev All : Play → Type 0
+module _ (rules : Rules) where
+  abbrev n : ℕ
+  n = rules.plan.n
+
+  abbrev m : Meaning
+  m = rules.meaning
+
+  abbrev All : State → Type 0
   All s = Accounted s.log (HasOne n s.table.parties)
 
-  abbrev Long : Play → Type 0
+  abbrev Long : State → Type 0
   Long s = n ≤ length s.table.parties
 
-  delivers : (o : Option Beat) (j leg : ℕ) (s : Play) → on_leg leg (the j s.table) ≡ o → 1 ≤ j → j ≤ n → (leg ≡ 1 → (the j s.table).legs.reply ≡ None) →
-      Long s → All s → All (delivered_as o j leg s)
+  delivers : (o : Option Beat) (j leg : ℕ) (s : State) → on_leg leg (the j s.table) ≡ o → 1 ≤ j → j ≤ n → (leg ≡ 1 → (the j s.table).legs.reply ≡ None) →
+      Long s → All s → All (after_arrival o j leg s)
   delivers None j leg s e lo hi free long a = a
   delivers (Some b) j leg s e lo hi free long a =
       let t = s.table in
       changes n (j - 1) (arrives t.clock t.root leg b (length s.log + 1) (the j t)) t.parties s.log (arrival_log t.clock t.root leg b j (the j t) s.log)
       (omega arith) long (λ G. arrive G leg t.root b t.clock j (the j t) s.log e free) a
 
-  loses_one : (o : Option Beat) (j leg : ℕ) (s : Play) → on_leg leg (the j s.table) ≡ o → 1 ≤ j → j ≤ n → Long s → All s → All (lost_as o j leg s)
+  loses_one : (o : Option Beat) (j leg : ℕ) (s : State) → on_leg leg (the j s.table) ≡ o → 1 ≤ j → j ≤ n → Long s → All s → All (after_loss_of o j leg s)
   loses_one None j leg s e lo hi long a = a
   loses_one (Some b) j leg s e lo hi long a =
-      let h = happens s.table.clock (sender leg j) Lost b.place in
+      let h = happening s.table.clock (sender leg j) Lost b.place in
       changes n (j - 1) (off_leg leg (the j s.table)) s.table.parties s.log (s.log ++ h ∷ [])
       (omega arith) long (λ G. takes G leg (the j s.table) b s.log h e refl (λ is. absurd (grind arith)) refl) a
 
   -- a record that is no sending, of one party or of the root
-  tells_one : (j : ℕ) (p : Party) (s : Play) (h : Happening) → 1 ≤ j → j ≤ n → (h.kind ≡ Sent → ⊥) → Keeps (the j s.table) p → Long s → All s →
+  tells_one : (j : ℕ) (p : Party) (s : State) (h : Happening) → 1 ≤ j → j ≤ n → (h.kind ≡ Sent → ⊥) → Keeps (the j s.table) p → Long s → All s →
       Accounted (s.log ++ h ∷ []) (HasOne n (set s.table.parties (j - 1) p))
   tells_one j p s h lo hi other keeps long a =
       changes n (j - 1) p s.table.parties s.log (s.log ++ h ∷ []) (omega arith) long
       (λ G b. stays G (the j s.table) p (s.log ++ h ∷ []) keeps (tells G (the j s.table) s.log h other b)) a
 
-  tells_root : (s : Play) (h : Happening) → (h.kind ≡ Sent → ⊥) → All s → Accounted (s.log ++ h ∷ []) (HasOne n s.table.parties)
+  tells_root : (s : State) (h : Happening) → (h.kind ≡ Sent → ⊥) → All s → Accounted (s.log ++ h ∷ []) (HasOne n s.table.parties)
   tells_root s h other = push s.log h (HasOne n s.table.parties) (HasOne n s.table.parties) (λ is. absurd (other is)) (λ k u. inr u)
 
-  crashes_one : (j : ℕ) (s : Play) → j ≤ n → Long s → All s → All (crashed j s)
-  crashes_one zero s hi long a = tells_root s (happens s.table.clock 0 Crashed (length s.log)) (λ is. absurd (grind arith)) a
+  crashes_one : (j : ℕ) (s : State) → j ≤ n → Long s → All s → All (after_crash j s)
+  crashes_one zero s hi long a = tells_root s (happening s.table.clock 0 Crashed (length s.log)) (λ is. absurd (grind arith)) a
   crashes_one (suc j) s hi long a =
-      tells_one (suc j) (crashes s.table.clock (the (suc j) s.table)) s (happens s.table.clock (suc j) Crashed (length s.log)) (omega arith) hi
+      tells_one (suc j) (crashes s.table.clock (the (suc j) s.table)) s (happening s.table.clock (suc j) Crashed (length s.log)) (omega arith) hi
       (λ is. absurd (grind arith)) (λ leg b e. e) long a
 
-  leaves_one : (j : ℕ) (s : Play) → 1 ≤ j → j ≤ n → Long s → All s → All (leaves j s)
+  leaves_one : (j : ℕ) (s : State) → 1 ≤ j → j ≤ n → Long s → All s → All (after_leave j s)
   leaves_one j s lo hi long a =
-      tells_one j (now_leaving (the j s.table)) s (happens s.table.clock j Leaving (length s.log)) lo hi (λ is. absurd (grind arith)) (λ leg b e. e) long a
+      tells_one j (now_leaving (the j s.table)) s (happening s.table.clock j Leaving (length s.log)) lo hi (λ is. absurd (grind arith)) (λ leg b e. e) long a
 
-  joins_one : (m : Meaning) (j : ℕ) (s : Play) → 1 ≤ j → j ≤ n → (the j s.table).legs.entry ≡ None → Long s → All s → All (joins m j s)
-  joins_one m j s lo hi free long a =
+  joins_one : (j : ℕ) (s : State) → 1 ≤ j → j ≤ n → (the j s.table).legs.entry ≡ None → Long s → All s → All (after_join (trip rules.meaning) j s)
+  joins_one j s lo hi free long a =
       let c = s.table.clock in
       let p = the j s.table in
-      let h = happens c j Joining (length s.log) in
+      let h = happening c j Joining (length s.log) in
       let log = s.log ++ h ∷ [] in
       let d = beat (c + trip m) false (length s.log + 1) in
       let p' = joined c (c + trip m) (length s.log + 1) p in
-      changes n (j - 1) p' s.table.parties s.log (log ++ happens c j Sent (length log) ∷ []) (omega arith) long
-      (λ G b. puts G p p' 3 d log (happens c j Sent (length log)) (keeps_entry p d free) refl (sym (length_push s.log h))
+      changes n (j - 1) p' s.table.parties s.log (log ++ happening c j Sent (length log) ∷ []) (omega arith) long
+      (λ G b. puts G p p' 3 d log (happening c j Sent (length log)) (keeps_entry p d free) refl (sym (length_push s.log h))
       (tells G p s.log h (λ is. absurd (grind arith)) b)) a
 
   -- a tick
 
-  counts : (s : Play) → Long s → All s → All (counted n s)
+  counts : (s : State) → Long s → All s → All (after_count n s)
   counts s long =
-      weaken s.log (HasOne n s.table.parties) (HasOne n (counted n s).table.parties)
+      weaken s.log (HasOne n s.table.parties) (HasOne n (after_count n s).table.parties)
       (λ k h. record {
         at = h.at;
         below = h.below;
@@ -419,75 +430,75 @@ module _ (n : ℕ) where
             1 n 0 s.table.parties nobody h.at h.below long h.has;
       })
 
-  starts : (last : ℕ) (s : Play) → ((k : ℕ) → k < n → FreeOut (get_or s.table.parties k nobody)) → All s → All (sent last n s)
+  starts : (last : ℕ) (s : State) → ((k : ℕ) → k < n → FreeOut (get_or s.table.parties k nobody)) → All s → All (after_sending last n s)
   starts last s free a =
       passes FreeOut (λ _ log p. sends last (length log) p) (λ _ log p. send_log s.table.clock log p)
       (λ G j log p f b. send G p.note.roll s.table.clock last log p f b) n s.log s.table.parties free a
 
-  settles_round : (b : Bool) (m : Meaning) (s : Play) → ((k : ℕ) → k < n → FreeOut (get_or s.table.parties k nobody)) → All s → All (settled_as b m n s)
-  settles_round true m s free a = tells_root s (happens s.table.clock 0 Stopped (length s.log)) (λ is. absurd (grind arith)) a
-  settles_round false m s free a = starts (s.table.clock + trip m) (started (shortest m.waits m.tmax n s.table.parties) s) free a
+  settles_round : (b : Bool) (s : State) → ((k : ℕ) → k < n → FreeOut (get_or s.table.parties k nobody)) → All s → All (after_verdict_of b rules s)
+  settles_round true s free a = tells_root s (happening s.table.clock 0 Stopped (length s.log)) (λ is. absurd (grind arith)) a
+  settles_round false s free a = starts (s.table.clock + trip m) (after_start (shortest m.waits m.tmax n s.table.parties) s) free a
 
-  rounds : (b : Bool) (m : Meaning) (s : Play) → Long s → (b ≡ true → (k : ℕ) → k < n → FreeOut (get_or s.table.parties k nobody)) → All s → All (rounded_as b m n s)
-  rounds true m s long free a =
-      settles_round (any (missed_all (length m.waits)) n (counted n s).table.parties) m (counted n s)
+  rounds : (b : Bool) (s : State) → Long s → (b ≡ true → (k : ℕ) → k < n → FreeOut (get_or s.table.parties k nobody)) → All s → All (after_round_if b rules s)
+  rounds true s long free a =
+      settles_round (any (missed_all (length m.waits)) n (after_count n s).table.parties) (after_count n s)
       (λ k h. walks_each _ _ FreeOut FreeOut (λ _ (u : ℕ) p f. missed_out p f) 1 n 0 s.table.parties nobody k h long (free refl k h))
       (counts s long a)
-  rounds false m s long free a = a
+  rounds false s long free a = a
 
   -- what a round leaves as it was
-  settles_entry : (b : Bool) (m : Meaning) (c : ℕ) (s : Play) → Long s → ((k : ℕ) → k < n → FreeEntry c m.tmin (get_or s.table.parties k nobody)) →
-      (k : ℕ) → k < n → FreeEntry c m.tmin (get_or (settled_as b m n s).table.parties k nobody)
-  settles_entry true m c s long free k h = free k h
-  settles_entry false m c s long free k h =
+  settles_entry : (b : Bool) (c : ℕ) (s : State) → Long s → ((k : ℕ) → k < n → FreeEntry c m.tmin (get_or s.table.parties k nobody)) →
+      (k : ℕ) → k < n → FreeEntry c m.tmin (get_or (after_verdict_of b rules s).table.parties k nobody)
+  settles_entry true c s long free k h = free k h
+  settles_entry false c s long free k h =
       walks_each _ _ (FreeEntry c m.tmin) (FreeEntry c m.tmin) (λ _ log p f. sends_entry p.note.roll c m.tmin _ (length log) p f)
       1 n s.log s.table.parties nobody k h long (free k h)
 
-  rounds_entry : (b : Bool) (m : Meaning) (c : ℕ) (s : Play) → Long s → ((k : ℕ) → k < n → FreeEntry c m.tmin (get_or s.table.parties k nobody)) →
-      (k : ℕ) → k < n → FreeEntry c m.tmin (get_or (rounded_as b m n s).table.parties k nobody)
-  rounds_entry true m c s long free k h =
-      settles_entry (any (missed_all (length m.waits)) n (counted n s).table.parties) m c (counted n s)
+  rounds_entry : (b : Bool) (c : ℕ) (s : State) → Long s → ((k : ℕ) → k < n → FreeEntry c m.tmin (get_or s.table.parties k nobody)) →
+      (k : ℕ) → k < n → FreeEntry c m.tmin (get_or (after_round_if b rules s).table.parties k nobody)
+  rounds_entry true c s long free k h =
+      settles_entry (any (missed_all (length m.waits)) n (after_count n s).table.parties) c (after_count n s)
       (walks_long (λ _ (u : ℕ) p. missed p) (λ _ (u : ℕ) _. u) 1 n 0 s.table.parties n long)
       (λ k h. walks_each _ _ (FreeEntry c m.tmin) (FreeEntry c m.tmin) (λ _ (u : ℕ) p f. f) 1 n 0 s.table.parties nobody k h long (free k h))
       k h
-  rounds_entry false m c s long free k h = free k h
+  rounds_entry false c s long free k h = free k h
 
-  timers : (d l x : ℕ) (s : Play) → ((k : ℕ) → k < n → FreeEntry s.table.clock l (get_or s.table.parties k nobody)) → All s → All (timed d l x n s)
+  timers : (d l x : ℕ) (s : State) → ((k : ℕ) → k < n → FreeEntry s.table.clock l (get_or s.table.parties k nobody)) → All s → All (after_timers d l x n s)
   timers d l x s free a =
       let c = s.table.clock in
       passes (FreeEntry c l) (λ _ log p. times c d l (c + x) (length log) p) (λ j log p. timer_log p.own.standing c d l p.own.since j log)
       (λ G j log p f b. time G p.own.standing c d l (c + x) j log p (λ g is calls. calls_free g c l p f is calls) b) n s.log s.table.parties free a
 
-module _ (m : Meaning) (plan : Plan) (room : ℕ) where
-  does : (call : Call) (s : Play) → number plan room call s ≡ 0 → FreeFor m plan call s → Long plan.n s → All plan.n s → All plan.n (done m plan call s)
+module _ (rules : Rules) where
+  does : (call : Call) (s : State) → number rules call s ≡ 0 → FreeFor rules call s → Long rules s → All rules s → All rules (effect rules call s)
   does Tick s z free long a =
       let ends = round_ends s.table in
-      let f = λ (k : ℕ) (h : k < plan.n). free (k + 1) (omega arith) (omega arith) in
-      timers plan.n (patience m plan.kind) m.tmin (trip m) (rounded m plan.n s)
-      (λ k h. subst (λ c. FreeEntry c m.tmin (get_or (rounded m plan.n s).table.parties k nobody)) (sym (rounded_clock m plan.n ends s))
-      (rounds_entry plan.n ends m s.table.clock s long (λ k h. subst (λ j. FreeEntry s.table.clock m.tmin (get_or s.table.parties j nobody)) (omega arith) (f k h).1) k h))
-      (rounds plan.n ends m s long (λ is k h. subst (λ j. FreeOut (get_or s.table.parties j nobody)) (omega arith) ((f k h).0 is)) a)
-  does (Deliver i leg) s z free long a = let p = asked_party plan.n i _ z in delivers plan.n (on_leg leg (the i s.table)) i leg s refl p.0 p.1 free long a
-  does (Lose i leg) s z free long a = let p = asked_party plan.n i _ z in loses_one plan.n (on_leg leg (the i s.table)) i leg s refl p.0 p.1 long a
-  does (Crash i) s z free long a = crashes_one plan.n i s (asked_low plan.n i _ z) long a
-  does (Join i) s z free long a = let p = asked_party plan.n i _ z in joins_one plan.n m i s p.0 p.1 free long a
-  does (Leave i) s z free long a = let p = asked_party plan.n i _ z in leaves_one plan.n i s p.0 p.1 long a
+      let f = λ (k : ℕ) (h : k < rules.plan.n). free (k + 1) (omega arith) (omega arith) in
+      timers rules (patience rules.meaning rules.plan.kind) rules.meaning.tmin (trip rules.meaning) (after_round rules s)
+      (λ k h. subst (λ c. FreeEntry c rules.meaning.tmin (get_or (after_round rules s).table.parties k nobody)) (sym (rounded_clock rules ends s))
+      (rounds_entry rules ends s.table.clock s long (λ k h. subst (λ j. FreeEntry s.table.clock rules.meaning.tmin (get_or s.table.parties j nobody)) (omega arith) (f k h).1) k h))
+      (rounds rules ends s long (λ is k h. subst (λ j. FreeOut (get_or s.table.parties j nobody)) (omega arith) ((f k h).0 is)) a)
+  does (Deliver i leg) s z free long a = let p = asked_party rules.plan.n i _ z in delivers rules (on_leg leg (the i s.table)) i leg s refl p.0 p.1 free long a
+  does (Lose i leg) s z free long a = let p = asked_party rules.plan.n i _ z in loses_one rules (on_leg leg (the i s.table)) i leg s refl p.0 p.1 long a
+  does (Crash i) s z free long a = crashes_one rules i s (asked_low rules.plan.n i _ z) long a
+  does (Join i) s z free long a = let p = asked_party rules.plan.n i _ z in joins_one rules i s p.0 p.1 free long a
+  does (Leave i) s z free long a = let p = asked_party rules.plan.n i _ z in leaves_one rules i s p.0 p.1 long a
 
-  performs : (call : Call) (s : Play) (k : ℕ) → number plan room call s ≡ k → (k ≡ 0 → FreeFor m plan call s) → Long plan.n s → All plan.n s →
-      All plan.n (unless k s (done m plan call s))
+  performs : (call : Call) (s : State) (k : ℕ) → number rules call s ≡ k → (k ≡ 0 → FreeFor rules call s) → Long rules s → All rules s →
+      All rules (unless k s (effect rules call s))
   performs call s zero z free long a = does call s z (free refl) long a
   performs call s (suc k) z free long a = a
 
-  module _ (sound : Lawful m) where
-    plays : (before later : List Call) → All plan.n (reached m plan room before) → All plan.n (reached m plan room (before ++ later))
-    plays before [] a = subst (λ calls. All plan.n (reached m plan room calls)) (sym (append-nil before)) a
+  module _ (sound : Lawful rules.meaning) where
+    plays : (before later : List Call) → All rules (run_state rules before) → All rules (run_state rules (before ++ later))
+    plays before [] a = subst (λ calls. All rules (run_state rules calls)) (sym (append-nil before)) a
     plays before (call ∷ later) a =
-        let s = reached m plan room before in
-        let next = performs call s (number plan room call s) refl (free_legs m sound plan room before call) (logged_after m plan room before).0.long a in
-        subst (λ calls. All plan.n (reached m plan room calls)) (append_assoc before (call ∷ []) later)
-        (plays (before ++ call ∷ []) later (subst (All plan.n) (sym (played_snoc m plan room before call (opened m plan))) next))
+        let s = run_state rules before in
+        let next = performs call s (number rules call s) refl (free_legs rules sound before call) (logged_after rules before).0.long a in
+        subst (λ calls. All rules (run_state rules calls)) (append_assoc before (call ∷ []) later)
+        (plays (before ++ call ∷ []) later (subst (All rules) (sym (played_snoc rules before call (opening rules))) next))
 
-under_way : (n : ℕ) (s : Play) (k : ℕ) → HasOne n s.table.parties k → UnderWay n s.table k
+under_way : (n : ℕ) (s : State) (k : ℕ) → HasOne n s.table.parties k → UnderWay n s.table k
 under_way n s k h = record {
   party = h.at + 1;
   leg = h.has.leg;
@@ -498,7 +509,7 @@ under_way n s k h = record {
 }
 
 pub no_beat_vanishes : RunsLetNoBeatVanish
-no_beat_vanishes m sound plan room calls =
-    let s = reached m plan room calls in
-    weaken s.log (HasOne plan.n s.table.parties) (UnderWay plan.n s.table) (under_way plan.n s)
-    (plays m plan room sound [] calls (λ k below. absurd (omega arith)))
+no_beat_vanishes rules sound calls =
+    let s = run_state rules calls in
+    weaken s.log (HasOne rules.plan.n s.table.parties) (UnderWay rules.plan.n s.table) (under_way rules.plan.n s)
+    (plays rules sound [] calls (λ k below. absurd (omega arith)))

@@ -2,13 +2,20 @@
 use Rattle.std.proofs.Common.{◌≡◌, ℕ, zero, suc, ◌+◌, ◌-◌, ◌*◌, ◌<◌, Bool, true, false, cond, not, ◌||◌, ltb, leb, List, [], ◌∷◌, length, get_or, Some, None, Option, refl, ◌∙◌, arith}
 use Rattle.protocol.specs.declared.party.Beat.{Beat}
 use Rattle.protocol.specs.declared.happening.Happening.{Happening}
-use Rattle.protocol.specs.declared.plan.Plan.{Plan}
 use Rattle.protocol.specs.declared.call.Call.{Call}
 use Rattle.protocol.specs.declared.call.Call.TheVariants.{Tick, Deliver, Lose, Crash, Join, Leave}
-use Rattle.pace.specs.Meaning.{Meaning}
-use Rattle.protocol.specs.Party.{on_leg, due}
-use Rattle.protocol.specs.Group.{Play, the, any, delivered_as, lost_as, opened}
-use Rattle.protocol.specs.Runs.{asks, is_there, is_own_log, log_asks, is_party, may_join, may_leave, is_outside, is_in, can_crash, number, done, unless, perform, played}
+use Rattle.protocol.specs.Party.{on_leg}
+use Rattle.protocol.specs.calls.Tick.{due, any}
+use Rattle.protocol.specs.Rules.{Rules}
+use Rattle.protocol.specs.State.{State, the, opening}
+use Rattle.protocol.specs.calls.Deliver.{after_arrival}
+use Rattle.protocol.specs.calls.Lose.{after_loss_of}
+use Rattle.protocol.specs.Questions.{asks, is_own_log, log_asks, is_party}
+use Rattle.protocol.specs.Runs.{number, effect, unless, perform, state_after}
+use Rattle.std.specs.Prelude.{is_some}
+use Rattle.protocol.specs.calls.Join.{may_join, is_outside}
+use Rattle.protocol.specs.calls.Leave.{may_leave, is_in}
+use Rattle.protocol.specs.calls.Crash.{can_crash}
 use Rattle.protocol.specs.Beats.{is_arrival, happening_at, Edge, edge, edges, SourcesDiffer, BeatsAreLogged, RunsSettleEachSendingOnce}
 use Rattle.protocol.specs.Order.{RunsKeepTheirLogInOrder}
 use Rattle.protocol.proofs.Logs.{at, after, held_at}
@@ -16,11 +23,11 @@ use Rattle.protocol.proofs.Own.{owns}
 use Rattle.protocol.proofs.Records.{owned}
 
 -- in every run the beats are logged
-pub logs_beats : (m : Meaning) (plan : Plan) (room : ℕ) (calls : List Call) → BeatsAreLogged plan (played m plan room calls (opened m plan))
-logs_beats m plan room calls =
-    let s = played m plan room calls (opened m plan) in
-    let t = (after m plan room calls).0 in
-    record { on_legs = λ i leg b lo hi e. held_at (at s) plan.n s i leg b lo hi t e; arrivals = t.linked; losses = t.losses }
+pub logs_beats : (rules : Rules) (calls : List Call) → BeatsAreLogged rules (state_after rules calls (opening rules))
+logs_beats rules calls =
+    let s = state_after rules calls (opening rules) in
+    let t = (after rules calls).0 in
+    record { on_legs = λ i leg b lo hi e. held_at (at s) rules s i leg b lo hi t e; arrivals = t.linked; losses = t.losses }
 
 -- the edge at i is of an arrival of the log
 abbrev OfArrival : List Edge → List Happening → ℕ → Type 0
@@ -60,8 +67,8 @@ arrival_settles true b e = refl
 arrival_settles false b e = absurd (grind arith)
 
 pub settle_once : RunsSettleEachSendingOnce
-settle_once m sound plan room calls =
-    let t = (after m plan room calls).0 in
+settle_once rules sound calls =
+    let t = (after rules calls).0 in
     record {
       once = t.once;
       sources_differ = sources 0 _ (λ j k lt h is_j is_k. t.once j k lt h (arrival_settles _ _ is_j) (arrival_settles _ _ is_k));
@@ -72,19 +79,19 @@ settle_once m sound plan room calls =
 
 -- the table counts the records
 
-module _ (m : Meaning) (plan : Plan) (room : ℕ) where
-  abbrev Counts : Play → Type 0
+module _ (rules : Rules) where
+  abbrev Counts : State → Type 0
   Counts s = s.table.logged ≡ length s.log
 
-  counts_delivery : (o : Option Beat) (i leg : ℕ) (s : Play) → Counts s → Counts (delivered_as o i leg s)
+  counts_delivery : (o : Option Beat) (i leg : ℕ) (s : State) → Counts s → Counts (after_arrival o i leg s)
   counts_delivery None i leg s e = e
   counts_delivery (Some b) i leg s e = refl
 
-  counts_loss : (o : Option Beat) (i leg : ℕ) (s : Play) → Counts s → Counts (lost_as o i leg s)
+  counts_loss : (o : Option Beat) (i leg : ℕ) (s : State) → Counts s → Counts (after_loss_of o i leg s)
   counts_loss None i leg s e = e
   counts_loss (Some b) i leg s e = refl
 
-  counts_done : (call : Call) (s : Play) → Counts s → Counts (done m plan call s)
+  counts_done : (call : Call) (s : State) → Counts s → Counts (effect rules call s)
   counts_done Tick s e = refl
   counts_done (Deliver i leg) s e = counts_delivery (on_leg leg (the i s.table)) i leg s e
   counts_done (Lose i leg) s e = counts_loss (on_leg leg (the i s.table)) i leg s e
@@ -93,17 +100,17 @@ module _ (m : Meaning) (plan : Plan) (room : ℕ) where
   counts_done (Join i) s e = refl
   counts_done (Leave i) s e = refl
 
-  counts_performed : (k : ℕ) (call : Call) (s : Play) → Counts s → Counts (unless k s (done m plan call s))
+  counts_performed : (k : ℕ) (call : Call) (s : State) → Counts s → Counts (unless k s (effect rules call s))
   counts_performed zero call s e = counts_done call s e
   counts_performed (suc k) call s e = e
 
-  counts_played : (calls : List Call) (s : Play) → Counts s → Counts (played m plan room calls s)
+  counts_played : (calls : List Call) (s : State) → Counts s → Counts (state_after rules calls s)
   counts_played [] s e = e
-  counts_played (call ∷ calls) s e = counts_played calls (perform m plan room call s) (counts_performed (number plan room call s) call s e)
+  counts_played (call ∷ calls) s e = counts_played calls (perform rules call s) (counts_performed (number rules call s) call s e)
 
 -- the questions on the log never answer 13, and so no question before them
 
-log_asked : (slots room : ℕ) (s : Play) → is_own_log s ≡ true → log_asks slots room s ≡ 13 → ⊥
+log_asked : (slots room : ℕ) (s : State) → is_own_log s ≡ true → log_asks slots room s ≡ 13 → ⊥
 log_asked slots room s own e = shape (leb (length s.log + slots) room) (is_own_log s) own e
   where
     shape : (a b : Bool) → b ≡ true → asks a 12 (asks b 13 0) ≡ 13 → ⊥
@@ -118,21 +125,21 @@ passed_three : (a b c : Bool) (x : ℕ) → asks a 6 (asks b 7 (asks c 8 x)) ≡
 passed_three true b c x e = passed_two b c 7 8 x e (omega arith) (omega arith)
 passed_three false b c x e = absurd (omega arith)
 
-never_another : (plan : Plan) (room : ℕ) (call : Call) (s : Play) → is_own_log s ≡ true → number plan room call s ≡ 13 → ⊥
-never_another plan room Tick s own e =
-    log_asked (2 * plan.n) room s own
-    (passed_two (ltb s.table.clock 4000000000) (not (any (due s.table.clock) plan.n s.table.parties)) 10 11 _ e (omega arith) (omega arith))
-never_another plan room (Deliver i leg) s own e =
-    log_asked 2 room s own (passed_two (is_party plan.n i) (is_there (on_leg leg (the i s.table))) 6 9 _ e (omega arith) (omega arith))
-never_another plan room (Lose i leg) s own e =
-    log_asked 2 room s own (passed_two (is_party plan.n i) (is_there (on_leg leg (the i s.table))) 6 9 _ e (omega arith) (omega arith))
-never_another plan room (Crash i) s own e = log_asked 2 room s own (passed_two (leb i plan.n) (can_crash i s) 6 8 _ e (omega arith) (omega arith))
-never_another plan room (Join i) s own e = log_asked 2 room s own (passed_three (is_party plan.n i) (may_join plan.kind) (is_outside (the i s.table).own.standing) _ e)
-never_another plan room (Leave i) s own e = log_asked 2 room s own (passed_three (is_party plan.n i) (may_leave plan.kind) (is_in (the i s.table).own.standing) _ e)
+never_another : (rules : Rules) (call : Call) (s : State) → is_own_log s ≡ true → number rules call s ≡ 13 → ⊥
+never_another rules Tick s own e =
+    log_asked (2 * rules.plan.n) rules.room s own
+    (passed_two (ltb s.table.clock 4000000000) (not (any (due s.table.clock) rules.plan.n s.table.parties)) 10 11 _ e (omega arith) (omega arith))
+never_another rules (Deliver i leg) s own e =
+    log_asked 2 rules.room s own (passed_two (is_party rules.plan.n i) (is_some (on_leg leg (the i s.table))) 6 9 _ e (omega arith) (omega arith))
+never_another rules (Lose i leg) s own e =
+    log_asked 2 rules.room s own (passed_two (is_party rules.plan.n i) (is_some (on_leg leg (the i s.table))) 6 9 _ e (omega arith) (omega arith))
+never_another rules (Crash i) s own e = log_asked 2 rules.room s own (passed_two (leb i rules.plan.n) (can_crash i s) 6 8 _ e (omega arith) (omega arith))
+never_another rules (Join i) s own e = log_asked 2 rules.room s own (passed_three (is_party rules.plan.n i) (may_join rules.plan.kind) (is_outside (the i s.table).own.standing) _ e)
+never_another rules (Leave i) s own e = log_asked 2 rules.room s own (passed_three (is_party rules.plan.n i) (may_leave rules.plan.kind) (is_in (the i s.table).own.standing) _ e)
 
 pub in_order : RunsKeepTheirLogInOrder
-in_order m sound plan room calls =
-    let s = played m plan room calls (opened m plan) in
-    let o = (after m plan room calls).0.order in
-    let e = counts_played m plan room calls (opened m plan) refl in
-    record { in_order = o; owned = owned m plan room calls; counted = e; never_another = λ room call. never_another plan room call s (owns s o e) }
+in_order rules sound calls =
+    let s = state_after rules calls (opening rules) in
+    let o = (after rules calls).0.order in
+    let e = counts_played rules calls (opening rules) refl in
+    record { in_order = o; owned = owned rules calls; counted = e; never_another = λ room call. never_another (record rules { room = room }) call s (owns s o e) }

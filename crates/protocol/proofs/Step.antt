@@ -15,7 +15,12 @@ use Rattle.protocol.specs.declared.table.RootEnding.{RootEnding}
 use Rattle.protocol.specs.declared.table.RootEnding.TheVariants.{Crashed as RootCrashed, Stopped as RootStopped}
 use Rattle.protocol.specs.declared.kind.GroupKind.{GroupKind}
 use Rattle.protocol.specs.declared.kind.GroupKind.TheVariants.{Closed, Expanding, Dynamic}
-use Rattle.protocol.specs.Party.{hears_as, arrives, heeds, on_leg, off_leg, off_out, off_reply, off_entry, answers, crashes, joined, now_leaving, missed, sends, missed_all, due, times, times_as, times_live, calls_in, live, fresh}
+use Rattle.protocol.specs.calls.Deliver.{hears_as, arrives, heeds, answers}
+use Rattle.protocol.specs.Party.{on_leg, off_leg, off_out, off_reply, off_entry, live, fresh}
+use Rattle.protocol.specs.calls.Crash.{crashes}
+use Rattle.protocol.specs.calls.Join.{joined}
+use Rattle.protocol.specs.calls.Leave.{now_leaving}
+use Rattle.protocol.specs.calls.Tick.{missed, sends, missed_all, due, times, times_as, times_live, calls_in}
 use Rattle.protocol.specs.Kept.{Terms, LawfulTerms, Kept, Scene, Gone}
 
 whole_step : (c n : ℕ) → (c + n - c) % n ≡ 0

@@ -4,15 +4,17 @@ use Rattle.protocol.specs.declared.party.Party.{Party}
 use Rattle.protocol.specs.declared.party.Beat.{Beat}
 use Rattle.protocol.specs.declared.party.Roll.TheVariants.{Struck}
 use Rattle.protocol.specs.declared.table.Root.{Root}
-use Rattle.protocol.specs.declared.plan.Plan.{Plan}
 use Rattle.protocol.specs.declared.call.Call.{Call}
 use Rattle.protocol.specs.declared.call.Call.TheVariants.{Tick, Deliver, Lose, Crash, Join, Leave}
-use Rattle.pace.specs.Meaning.{Meaning}
-use Rattle.protocol.specs.Patience.{trip, patience}
 use Rattle.protocol.specs.Walk.{walks}
-use Rattle.protocol.specs.Party.{nobody, on_leg, off_leg, arrives, missed, missed_all, sends, times}
-use Rattle.protocol.specs.Group.{Play, the, delivered_as, lost_as, crashed, any, shortest, counted, sent, started, settled_as, rounded_as, rounded, round_ends, timed, opened}
-use Rattle.protocol.specs.Runs.{number, done, unless, perform, played}
+use Rattle.protocol.specs.Party.{nobody, on_leg, off_leg}
+use Rattle.protocol.specs.calls.Deliver.{arrives, after_arrival}
+use Rattle.protocol.specs.calls.Tick.{missed, sends, times, after_count, after_sending, shortest, after_start, after_verdict_of, after_round_if, after_round, round_ends, after_timers}
+use Rattle.protocol.specs.Rules.{Rules}
+use Rattle.protocol.specs.State.{State, the, opening}
+use Rattle.protocol.specs.calls.Lose.{after_loss_of}
+use Rattle.protocol.specs.calls.Crash.{after_crash}
+use Rattle.protocol.specs.Runs.{number, effect, unless, perform, state_after}
 use Rattle.protocol.specs.Strikes.{IsStruck, RunsStrikeForGood}
 use Rattle.protocol.proofs.Lifts.{set_each}
 use Rattle.protocol.proofs.Whole.{no_beat_of_the_root}
@@ -53,57 +55,58 @@ module _ (i : ℕ) where
   changed : (j : ℕ) (p : Party) (ps : List Party) → (Is (get_or ps (j - 1) nobody) → Is p) → Is (get_or ps (i - 1) nobody) → Is (get_or (set ps (j - 1) p) (i - 1) nobody)
   changed j p ps keep e = set_each Is ps (j - 1) (i - 1) p nobody (λ same. keep (subst (λ k. Is (get_or ps k nobody)) (sym same) e)) e
 
-  delivers : (o : Option Beat) (j leg : ℕ) (s : Play) → IsStruck i s → IsStruck i (delivered_as o j leg s)
+  delivers : (o : Option Beat) (j leg : ℕ) (s : State) → IsStruck i s → IsStruck i (after_arrival o j leg s)
   delivers None j leg s e = e
   delivers (Some b) j leg s e = changed j _ s.table.parties (arrives_struck s.table.clock s.table.root leg b _ _) e
 
-  loses_one : (o : Option Beat) (j leg : ℕ) (s : Play) → IsStruck i s → IsStruck i (lost_as o j leg s)
+  loses_one : (o : Option Beat) (j leg : ℕ) (s : State) → IsStruck i s → IsStruck i (after_loss_of o j leg s)
   loses_one None j leg s e = e
   loses_one (Some b) j leg s e = changed j _ s.table.parties (off_struck leg _) e
 
-  crashes_one : (j : ℕ) (s : Play) → IsStruck i s → IsStruck i (crashed j s)
+  crashes_one : (j : ℕ) (s : State) → IsStruck i s → IsStruck i (after_crash j s)
   crashes_one zero s e = e
   crashes_one (suc j) s e = changed (suc j) _ s.table.parties (λ f. f) e
 
-  counts : (n : ℕ) (s : Play) → IsStruck i s → IsStruck i (counted n s)
+  counts : (n : ℕ) (s : State) → IsStruck i s → IsStruck i (after_count n s)
   counts n s e = walks_keep _ _ Is (λ _ (u : ℕ) p. missed_struck p) 1 n 0 s.table.parties nobody (i - 1) e
 
-  starts : (last n : ℕ) (s : Play) → IsStruck i s → IsStruck i (sent last n s)
+  starts : (last n : ℕ) (s : State) → IsStruck i s → IsStruck i (after_sending last n s)
   starts last n s e = walks_keep _ _ Is (λ _ log p. sends_struck last (length log) p) 1 n s.log s.table.parties nobody (i - 1) e
 
-  settles : (b : Bool) (m : Meaning) (n : ℕ) (s : Play) → IsStruck i s → IsStruck i (settled_as b m n s)
-  settles true m n s e = e
-  settles false m n s e = starts (s.table.clock + trip m) n (started (shortest m.waits m.tmax n s.table.parties) s) e
+  settles : (b : Bool) (rules : Rules) (s : State) → IsStruck i s → IsStruck i (after_verdict_of b rules s)
+  settles true rules s e = e
+  settles false rules s e = starts _ rules.plan.n
+      (after_start (shortest rules.meaning.waits rules.meaning.tmax rules.plan.n s.table.parties) s) e
 
-  rounds : (b : Bool) (m : Meaning) (n : ℕ) (s : Play) → IsStruck i s → IsStruck i (rounded_as b m n s)
-  rounds true m n s e = settles (any (missed_all (length m.waits)) n (counted n s).table.parties) m n (counted n s) (counts n s e)
-  rounds false m n s e = e
+  rounds : (b : Bool) (rules : Rules) (s : State) → IsStruck i s → IsStruck i (after_round_if b rules s)
+  rounds true rules s e = settles _ rules (after_count rules.plan.n s) (counts rules.plan.n s e)
+  rounds false rules s e = e
 
-  timers : (d l x n : ℕ) (s : Play) → IsStruck i s → IsStruck i (timed d l x n s)
+  timers : (d l x n : ℕ) (s : State) → IsStruck i s → IsStruck i (after_timers d l x n s)
   timers d l x n s e =
       walks_keep _ _ Is (λ _ log p. times_struck s.table.clock d l (s.table.clock + x) (length log) p) 1 n s.log s.table.parties nobody (i - 1) e
 
-  module _ (m : Meaning) (plan : Plan) (room : ℕ) where
-    does : (call : Call) (s : Play) → IsStruck i s → IsStruck i (done m plan call s)
-    does Tick s e = timers (patience m plan.kind) m.tmin (trip m) plan.n (rounded m plan.n s) (rounds (round_ends s.table) m plan.n s e)
+  module _ (rules : Rules) where
+    does : (call : Call) (s : State) → IsStruck i s → IsStruck i (effect rules call s)
+    does Tick s e = timers _ _ _ rules.plan.n (after_round rules s) (rounds (round_ends s.table) rules s e)
     does (Deliver j leg) s e = delivers (on_leg leg (the j s.table)) j leg s e
     does (Lose j leg) s e = loses_one (on_leg leg (the j s.table)) j leg s e
     does (Crash j) s e = crashes_one j s e
     does (Join j) s e = changed j _ s.table.parties (λ f. f) e
     does (Leave j) s e = changed j _ s.table.parties (λ f. f) e
 
-    performs : (call : Call) (s : Play) (k : ℕ) → IsStruck i s → IsStruck i (unless k s (done m plan call s))
+    performs : (call : Call) (s : State) (k : ℕ) → IsStruck i s → IsStruck i (unless k s (effect rules call s))
     performs call s zero e = does call s e
     performs call s (suc k) e = e
 
     -- after some calls, and then others
-    plays_on : (before later : List Call) (s : Play) → IsStruck i (played m plan room before s) → IsStruck i (played m plan room (before ++ later) s)
+    plays_on : (before later : List Call) (s : State) → IsStruck i (state_after rules before s) → IsStruck i (state_after rules (before ++ later) s)
     plays_on [] [] s e = e
-    plays_on [] (call ∷ later) s e = plays_on [] later (perform m plan room call s) (performs call s (number plan room call s) e)
-    plays_on (call ∷ before) later s e = plays_on before later (perform m plan room call s) e
+    plays_on [] (call ∷ later) s e = plays_on [] later (perform rules call s) (performs call s (number rules call s) e)
+    plays_on (call ∷ before) later s e = plays_on before later (perform rules call s) e
 
 pub strikes_for_good : RunsStrikeForGood
-strikes_for_good m sound plan room calls = record {
-  stays_struck = λ before later after i among lo hi e. plays_on i m plan room before later (opened m plan) e;
-  gets_no_beat = λ before after i among lo hi e. no_beat_of_the_root m sound plan room before i lo hi e;
+strikes_for_good rules sound calls = record {
+  stays_struck = λ before later after i among lo hi e. plays_on i rules before later (opening rules) e;
+  gets_no_beat = λ before after i among lo hi e. no_beat_of_the_root rules sound before i lo hi e;
 }

@@ -17,14 +17,20 @@ use Rattle.protocol.specs.declared.kind.GroupKind.{GroupKind}
 use Rattle.protocol.specs.declared.happening.HappeningKind.{HappeningKind}
 use Rattle.protocol.specs.declared.happening.HappeningKind.TheVariants.{Sent, Arrived, Lost, Struck as WasStruck, Enrolled, Crashed as HasCrashed, Stopped, Left, Joining as IsJoining, Leaving as IsLeaving}
 use Rattle.protocol.specs.declared.happening.Happening.{Happening}
-use Rattle.protocol.specs.declared.plan.Plan.{Plan}
 use Rattle.protocol.specs.declared.call.Call.{Call}
 use Rattle.protocol.specs.declared.call.Call.TheVariants.{Tick, Deliver, Lose, Crash, Join, Leave}
-use Rattle.protocol.specs.Patience.{trip, patience}
+use Rattle.protocol.specs.Rules.{trip, patience, Rules}
 use Rattle.protocol.specs.Walk.{folds, walks}
-use Rattle.protocol.specs.Party.{nobody, fresh, on_leg, off_leg, off_out, off_reply, off_entry, arrives, hears_as, heeds, answers, joined, now_leaving, crashes, missed, sends, on_roll, missed_all, times, times_as, times_live, calls_in, live}
-use Rattle.protocol.specs.Group.{Play, the, happens, tells_of, links, sender, answer_log, arrival_log, runs, delivered_as, lost_as, crashed, root_crashed, joins, leaves, any, shortest, counted, send_log, sent, started, settled_as, rounded_as, rounded, round_ends, live_word, tells_if, timer_log, timed, opened}
-use Rattle.protocol.specs.Runs.{asks, can_crash, number, done, unless, perform, played}
+use Rattle.protocol.specs.Party.{nobody, fresh, on_leg, off_leg, off_out, off_reply, off_entry, on_roll, live}
+use Rattle.protocol.specs.calls.Deliver.{arrives, hears_as, heeds, answers, answer_log, arrival_log, after_arrival}
+use Rattle.protocol.specs.calls.Join.{joined, after_join}
+use Rattle.protocol.specs.calls.Leave.{now_leaving, after_leave}
+use Rattle.protocol.specs.calls.Crash.{crashes, after_crash, root_after_crash, can_crash}
+use Rattle.protocol.specs.calls.Tick.{missed, sends, missed_all, times, times_as, times_live, calls_in, any, shortest, after_count, send_log, after_sending, after_start, after_verdict_of, after_round_if, after_round, round_ends, live_word, tells_if, timer_log, after_timers}
+use Rattle.protocol.specs.State.{State, the, happening, with_record, with_linked, runs, opening}
+use Rattle.protocol.specs.calls.Lose.{sender, after_loss_of}
+use Rattle.protocol.specs.Questions.{asks}
+use Rattle.protocol.specs.Runs.{number, effect, unless, perform, state_after}
 use Rattle.protocol.specs.Told.{read, Account, account_of, first_account, tells_as, told_of, root_as, root_told, TellsTheGroup, RunsTellTheirGroup}
 use Rattle.protocol.proofs.Asked.{asked_party}
 use Rattle.protocol.proofs.Lifts.{walks_long, walks_each}
@@ -92,7 +98,16 @@ off_told : (leg : ℕ) (p : Party) → account_of (off_leg leg p) ≡ account_of
 off_told leg p = grind arith
 
 -- of one party i
-module _ (kind : GroupKind) (n i : ℕ) (lo : 1 ≤ i) (hi : i ≤ n) where
+module _ (rules : Rules) (i : ℕ) (lo : 1 ≤ i) (hi : i ≤ rules.plan.n) where
+  abbrev kind : GroupKind
+  kind = rules.plan.kind
+
+  abbrev n : ℕ
+  n = rules.plan.n
+
+  abbrev m : Meaning
+  m = rules.meaning
+
   abbrev T : List Happening → Account
   T log = told_of kind i log
 
@@ -134,10 +149,10 @@ module _ (kind : GroupKind) (n i : ℕ) (lo : 1 ≤ i) (hi : i ≤ n) where
   answer_here : (roll : Roll) (b : Bool) (c j : ℕ) (log : List Happening) (p : Party) → j ≡ i → p.note.roll ≡ roll → T log ≡ account_of p →
       T (answer_log roll b c j log) ≡ account_of (answers b p)
   answer_here IsStruck b c j log p h is e = grind arith
-  answer_here On true c j log p h is e = let f = mine log (happens c j WasStruck (length log)) h in grind arith
-  answer_here Off true c j log p h is e = let f = mine log (happens c j WasStruck (length log)) h in grind arith
+  answer_here On true c j log p h is e = let f = mine log (happening c j WasStruck (length log)) h in grind arith
+  answer_here Off true c j log p h is e = let f = mine log (happening c j WasStruck (length log)) h in grind arith
   answer_here On false c j log p h is e = grind arith
-  answer_here Off false c j log p h is e = let f = mine log (happens c j Enrolled (length log)) h in grind arith
+  answer_here Off false c j log p h is e = let f = mine log (happening c j Enrolled (length log)) h in grind arith
 
   heed_here : (r : Root) (b : Bool) (c j : ℕ) (log : List Happening) (p : Party) → j ≡ i → T log ≡ account_of p →
       T (cond (runs r) (answer_log p.note.roll b c j log) log) ≡ account_of (heeds r b p)
@@ -146,41 +161,41 @@ module _ (kind : GroupKind) (n i : ℕ) (lo : 1 ≤ i) (hi : i ≤ n) where
 
   arrival_there : (x : Bool) (r : Root) (b : Beat) (c j : ℕ) (p : Party) (log : List Happening) → (j ≡ i → ⊥) →
       T (cond x
-      (cond (live p.own.standing) (tells_of c j Sent (links c j Arrived b.place log)) (links c j Arrived b.place log))
-      (cond (runs r) (answer_log p.note.roll b.parting c j (links c 0 Arrived b.place log)) (links c 0 Arrived b.place log)))
+      (cond (live p.own.standing) (with_record c j Sent (with_linked c j Arrived b.place log)) (with_linked c j Arrived b.place log))
+      (cond (runs r) (answer_log p.note.roll b.parting c j (with_linked c 0 Arrived b.place log)) (with_linked c 0 Arrived b.place log)))
       ≡ T log
   arrival_there true r b c j p log h =
-      let e = other log (happens c j Arrived b.place) h in
-      conds (live p.own.standing) _ _ _ (idle (links c j Arrived b.place log) _ (λ a. refl) ∙ e) e
+      let e = other log (happening c j Arrived b.place) h in
+      conds (live p.own.standing) _ _ _ (idle (with_linked c j Arrived b.place log) _ (λ a. refl) ∙ e) e
   arrival_there false r b c j p log h =
-      let e = other log (happens c 0 Arrived b.place) (λ z. absurd (omega arith)) in
+      let e = other log (happening c 0 Arrived b.place) (λ z. absurd (omega arith)) in
       conds (runs r) _ _ _ (answer_there p.note.roll b.parting c j _ h ∙ e) e
 
   -- of a beat on leg 1 (x), 2 (y) or 3 (z)
   arrival_here : (x y z : Bool) (r : Root) (b : Beat) (c place j : ℕ) (p : Party) (log : List Happening) → j ≡ i →
       cond x p.legs.out (cond y p.legs.reply (cond z p.legs.entry None)) ≡ Some b → T log ≡ account_of p →
       T (cond x
-      (cond (live p.own.standing) (tells_of c j Sent (links c j Arrived b.place log)) (links c j Arrived b.place log))
-      (cond (runs r) (answer_log p.note.roll b.parting c j (links c 0 Arrived b.place log)) (links c 0 Arrived b.place log)))
+      (cond (live p.own.standing) (with_record c j Sent (with_linked c j Arrived b.place log)) (with_linked c j Arrived b.place log))
+      (cond (runs r) (answer_log p.note.roll b.parting c j (with_linked c 0 Arrived b.place log)) (with_linked c 0 Arrived b.place log)))
       ≡ account_of (cond x (hears_as p.own.standing c place b.last (off_out p))
       (cond y (heeds r b.parting (off_reply p)) (cond z (heeds r b.parting (off_entry p)) p)))
   arrival_here true y z r b c place j p log h held e =
-      let f : T (links c j Arrived b.place log) ≡ account_of (hears_as p.own.standing c place b.last (off_out p)) =
-      mine log (happens c j Arrived b.place) h ∙ ap (tells_as Arrived c) e ∙ sym (hears_told p.own.standing c place b.last (off_out p) refl) in
-      conds (live p.own.standing) _ _ _ (idle (links c j Arrived b.place log) _ (λ a. refl) ∙ f) f
+      let f : T (with_linked c j Arrived b.place log) ≡ account_of (hears_as p.own.standing c place b.last (off_out p)) =
+      mine log (happening c j Arrived b.place) h ∙ ap (tells_as Arrived c) e ∙ sym (hears_told p.own.standing c place b.last (off_out p) refl) in
+      conds (live p.own.standing) _ _ _ (idle (with_linked c j Arrived b.place log) _ (λ a. refl) ∙ f) f
   arrival_here false true z r b c place j p log h held e =
-      heed_here r b.parting c j (links c 0 Arrived b.place log) (off_reply p) h (other log (happens c 0 Arrived b.place) (λ z. absurd (omega arith)) ∙ e)
+      heed_here r b.parting c j (with_linked c 0 Arrived b.place log) (off_reply p) h (other log (happening c 0 Arrived b.place) (λ z. absurd (omega arith)) ∙ e)
   arrival_here false false true r b c place j p log h held e =
-      heed_here r b.parting c j (links c 0 Arrived b.place log) (off_entry p) h (other log (happens c 0 Arrived b.place) (λ z. absurd (omega arith)) ∙ e)
+      heed_here r b.parting c j (with_linked c 0 Arrived b.place log) (off_entry p) h (other log (happening c 0 Arrived b.place) (λ z. absurd (omega arith)) ∙ e)
   arrival_here false false false r b c place j p log h held e = absurd (grind arith)
 
-  abbrev Tells : Play → Type 0
+  abbrev Tells : State → Type 0
   Tells s = T s.log ≡ account_of (the i s.table)
 
-  abbrev Long : Play → Type 0
+  abbrev Long : State → Type 0
   Long s = n ≤ length s.table.parties
 
-  delivers : (o : Option Beat) (j leg : ℕ) (s : Play) → on_leg leg (the j s.table) ≡ o → 1 ≤ j → Long s → Tells s → Tells (delivered_as o j leg s)
+  delivers : (o : Option Beat) (j leg : ℕ) (s : State) → on_leg leg (the j s.table) ≡ o → 1 ≤ j → Long s → Tells s → Tells (after_arrival o j leg s)
   delivers None j leg s held low long e = e
   delivers (Some b) j leg s held low long e =
       let t = s.table in
@@ -191,10 +206,10 @@ module _ (kind : GroupKind) (n i : ℕ) (lo : 1 ≤ i) (hi : i ≤ n) where
 
   -- lose, crash, join, leave
 
-  loses_one : (o : Option Beat) (j leg : ℕ) (s : Play) → 1 ≤ j → Long s → Tells s → Tells (lost_as o j leg s)
+  loses_one : (o : Option Beat) (j leg : ℕ) (s : State) → 1 ≤ j → Long s → Tells s → Tells (after_loss_of o j leg s)
   loses_one None j leg s low long e = e
   loses_one (Some b) j leg s low long e =
-      let h = happens s.table.clock (sender leg j) Lost b.place in
+      let h = happening s.table.clock (sender leg j) Lost b.place in
       let f = idle s.log h (λ a. refl) in
       changes j (off_leg leg (the j s.table)) s.table.parties s.log (s.log ++ h ∷ []) low long e (λ here g. f ∙ g ∙ sym (off_told leg (the j s.table))) (λ there. f)
 
@@ -204,30 +219,30 @@ module _ (kind : GroupKind) (n i : ℕ) (lo : 1 ≤ i) (hi : i ≤ n) where
   crashes_told (Live g) c p a is e = grind arith
   crashes_told (Ended how at g) c p a is e = grind arith
 
-  crashes_one : (j : ℕ) (s : Play) → Long s → Tells s → Tells (crashed j s)
-  crashes_one zero s long e = other s.log (happens s.table.clock 0 HasCrashed (length s.log)) (λ z. absurd (omega arith)) ∙ e
+  crashes_one : (j : ℕ) (s : State) → Long s → Tells s → Tells (after_crash j s)
+  crashes_one zero s long e = other s.log (happening s.table.clock 0 HasCrashed (length s.log)) (λ z. absurd (omega arith)) ∙ e
   crashes_one (suc j) s long e =
       let c = s.table.clock in
-      let h = happens c (suc j) HasCrashed (length s.log) in
+      let h = happening c (suc j) HasCrashed (length s.log) in
       let p = the (suc j) s.table in
       changes (suc j) (crashes c p) s.table.parties s.log (s.log ++ h ∷ []) (omega arith) long e
       (λ here f. mine s.log h here ∙ crashes_told p.own.standing c p (T s.log) refl f)
       (λ there. other s.log h there)
 
-  joins_one : (m : Meaning) (j : ℕ) (s : Play) → 1 ≤ j → Long s → Tells s → Tells (joins m j s)
-  joins_one m j s low long e =
+  joins_one : (j : ℕ) (s : State) → 1 ≤ j → Long s → Tells s → Tells (after_join (trip rules.meaning) j s)
+  joins_one j s low long e =
       let c = s.table.clock in
-      let h = happens c j IsJoining (length s.log) in
-      let k = happens c j Sent (length (s.log ++ h ∷ [])) in
+      let h = happening c j IsJoining (length s.log) in
+      let k = happening c j Sent (length (s.log ++ h ∷ [])) in
       let f = idle (s.log ++ h ∷ []) k (λ a. refl) in
       changes j (joined c (c + trip m) (length s.log + 1) (the j s.table)) s.table.parties s.log ((s.log ++ h ∷ []) ++ k ∷ []) low long e
       (λ here g. f ∙ mine s.log h here ∙ ap (tells_as IsJoining c) g)
       (λ there. f ∙ other s.log h there)
 
-  leaves_one : (j : ℕ) (s : Play) → 1 ≤ j → Long s → Tells s → Tells (leaves j s)
+  leaves_one : (j : ℕ) (s : State) → 1 ≤ j → Long s → Tells s → Tells (after_leave j s)
   leaves_one j s low long e =
       let c = s.table.clock in
-      let h = happens c j IsLeaving (length s.log) in
+      let h = happening c j IsLeaving (length s.log) in
       changes j (now_leaving (the j s.table)) s.table.parties s.log (s.log ++ h ∷ []) low long e
       (λ here f. mine s.log h here ∙ ap (tells_as IsLeaving c) f)
       (λ there. other s.log h there)
@@ -255,28 +270,28 @@ module _ (kind : GroupKind) (n i : ℕ) (lo : 1 ≤ i) (hi : i ≤ n) where
   sends_told : (last place : ℕ) (p : Party) → account_of (sends last place p) ≡ account_of p
   sends_told last place p = grind arith
 
-  counts : (s : Play) → Long s → Tells s → Tells (counted n s)
+  counts : (s : State) → Long s → Tells s → Tells (after_count n s)
   counts s long e =
       walks_each _ _ (λ p. T s.log ≡ account_of p) (λ p. T s.log ≡ account_of p) (λ j (u : ℕ) p h. h ∙ sym (missed_told p))
       1 n 0 s.table.parties nobody (i - 1) (omega arith) (omega arith) e
 
-  starts : (last : ℕ) (s : Play) → Long s → Tells s → Tells (sent last n s)
+  starts : (last : ℕ) (s : State) → Long s → Tells s → Tells (after_sending last n s)
   starts last s long e =
       let c = s.table.clock in
-      let quiet = λ (log : List Happening) (p : Party). conds (on_roll p.note.roll) _ _ _ (idle log (happens c 0 Sent (length log)) (λ a. refl)) refl in
+      let quiet = λ (log : List Happening) (p : Party). conds (on_roll p.note.roll) _ _ _ (idle log (happening c 0 Sent (length log)) (λ a. refl)) refl in
       passes (λ _ log p. sends last (length log) p) (λ _ log p. send_log c log p)
       (λ j log p there. quiet log p) (λ j log p here f. quiet log p ∙ f ∙ sym (sends_told last (length log) p))
       1 n s.log s.table.parties (i - 1) (omega arith) (omega arith) (omega arith) e
 
-  settles : (b : Bool) (m : Meaning) (s : Play) → Long s → Tells s → Tells (settled_as b m n s)
-  settles true m s long e = other s.log (happens s.table.clock 0 Stopped (length s.log)) (λ z. absurd (omega arith)) ∙ e
-  settles false m s long e = starts (s.table.clock + trip m) (started (shortest m.waits m.tmax n s.table.parties) s) long e
+  settles : (b : Bool) (s : State) → Long s → Tells s → Tells (after_verdict_of b rules s)
+  settles true s long e = other s.log (happening s.table.clock 0 Stopped (length s.log)) (λ z. absurd (omega arith)) ∙ e
+  settles false s long e = starts (s.table.clock + trip m) (after_start (shortest m.waits m.tmax n s.table.parties) s) long e
 
-  rounds : (b : Bool) (m : Meaning) (s : Play) → Long s → Tells s → Tells (rounded_as b m n s)
-  rounds true m s long e =
-      settles (any (missed_all (length m.waits)) n (counted n s).table.parties) m (counted n s)
+  rounds : (b : Bool) (s : State) → Long s → Tells s → Tells (after_round_if b rules s)
+  rounds true s long e =
+      settles (any (missed_all (length m.waits)) n (after_count n s).table.parties) (after_count n s)
       (walks_long (λ _ (u : ℕ) p. missed p) (λ _ (u : ℕ) _. u) 1 n 0 s.table.parties n long) (counts s long e)
-  rounds false m s long e = e
+  rounds false s long e = e
 
   timer_there : (w : Option HappeningKind) (c j : ℕ) (log : List Happening) → (j ≡ i → ⊥) → T (tells_if w c j log) ≡ T log
   timer_there None c j log h = refl
@@ -284,10 +299,10 @@ module _ (kind : GroupKind) (n i : ℕ) (lo : 1 ≤ i) (hi : i ≤ n) where
 
   live_here : (ends calls : Bool) (g : Stage) (c last place j : ℕ) (log : List Happening) (p : Party) → j ≡ i → p.own.standing ≡ Live g →
       T log ≡ account_of p → T (tells_if (live_word ends calls g) c j log) ≡ account_of (times_live ends calls g c last place p)
-  live_here true calls Joins c last place j log p h is e = let f = mine log (happens c j Stopped (length log)) h in grind arith
-  live_here true calls In c last place j log p h is e = let f = mine log (happens c j Stopped (length log)) h in grind arith
-  live_here true calls Leaves c last place j log p h is e = let f = mine log (happens c j Left (length log)) h in grind arith
-  live_here false true g c last place j log p h is e = idle log (happens c j Sent (length log)) (λ a. refl) ∙ e
+  live_here true calls Joins c last place j log p h is e = let f = mine log (happening c j Stopped (length log)) h in grind arith
+  live_here true calls In c last place j log p h is e = let f = mine log (happening c j Stopped (length log)) h in grind arith
+  live_here true calls Leaves c last place j log p h is e = let f = mine log (happening c j Left (length log)) h in grind arith
+  live_here false true g c last place j log p h is e = idle log (happening c j Sent (length log)) (λ a. refl) ∙ e
   live_here false false g c last place j log p h is e = e
 
   timer_here : (st : Standing) (c d l last place j : ℕ) (log : List Happening) (p : Party) → j ≡ i → p.own.standing ≡ st →
@@ -296,7 +311,7 @@ module _ (kind : GroupKind) (n i : ℕ) (lo : 1 ≤ i) (hi : i ≤ n) where
   timer_here (Live g) c d l last place j log p h is e = live_here (leb d (c - p.own.since)) (calls_in g l (c - p.own.since)) g c last place j log p h is e
   timer_here (Ended how at g) c d l last place j log p h is e = e
 
-  timers : (d l x : ℕ) (s : Play) → Long s → Tells s → Tells (timed d l x n s)
+  timers : (d l x : ℕ) (s : State) → Long s → Tells s → Tells (after_timers d l x n s)
   timers d l x s long e =
       let c = s.table.clock in
       passes (λ _ log p. times c d l (c + x) (length log) p) (λ j log p. timer_log p.own.standing c d l p.own.since j log)
@@ -319,49 +334,49 @@ root_conds : (b : Bool) (x y : List Happening) (r : Root) → root_told x ≡ r 
 root_conds true x y r e f = e
 root_conds false x y r e f = f
 
-abbrev TellsRoot : Play → Type 0
+abbrev TellsRoot : State → Type 0
 TellsRoot s = root_told s.log ≡ s.table.root
 
 root_answer : (roll : Roll) (b : Bool) (c j : ℕ) (log : List Happening) → root_told (answer_log roll b c j log) ≡ root_told log
 root_answer IsStruck b c j log = refl
-root_answer On true c j log = root_idle log (happens c j WasStruck (length log)) (λ r. refl)
-root_answer Off true c j log = root_idle log (happens c j WasStruck (length log)) (λ r. refl)
+root_answer On true c j log = root_idle log (happening c j WasStruck (length log)) (λ r. refl)
+root_answer Off true c j log = root_idle log (happening c j WasStruck (length log)) (λ r. refl)
 root_answer On false c j log = refl
-root_answer Off false c j log = root_idle log (happens c j Enrolled (length log)) (λ r. refl)
+root_answer Off false c j log = root_idle log (happening c j Enrolled (length log)) (λ r. refl)
 
 root_arrival : (x : Bool) (r : Root) (b : Beat) (c j : ℕ) (p : Party) (log : List Happening) →
     root_told (cond x
-    (cond (live p.own.standing) (tells_of c j Sent (links c j Arrived b.place log)) (links c j Arrived b.place log))
-    (cond (runs r) (answer_log p.note.roll b.parting c j (links c 0 Arrived b.place log)) (links c 0 Arrived b.place log)))
+    (cond (live p.own.standing) (with_record c j Sent (with_linked c j Arrived b.place log)) (with_linked c j Arrived b.place log))
+    (cond (runs r) (answer_log p.note.roll b.parting c j (with_linked c 0 Arrived b.place log)) (with_linked c 0 Arrived b.place log)))
     ≡ root_told log
 root_arrival true r b c j p log =
-    let e = root_idle log (happens c j Arrived b.place) (λ r. refl) in
-    root_conds (live p.own.standing) _ _ _ (root_idle (links c j Arrived b.place log) (happens c j Sent (length (links c j Arrived b.place log))) (λ r. refl) ∙ e) e
+    let e = root_idle log (happening c j Arrived b.place) (λ r. refl) in
+    root_conds (live p.own.standing) _ _ _ (root_idle (with_linked c j Arrived b.place log) (happening c j Sent (length (with_linked c j Arrived b.place log))) (λ r. refl) ∙ e) e
 root_arrival false r b c j p log =
-    let e = root_idle log (happens c 0 Arrived b.place) (λ r. refl) in
+    let e = root_idle log (happening c 0 Arrived b.place) (λ r. refl) in
     root_conds (runs r) _ _ _ (root_answer p.note.roll b.parting c j _ ∙ e) e
 
-root_delivers : (o : Option Beat) (j leg : ℕ) (s : Play) → TellsRoot s → TellsRoot (delivered_as o j leg s)
+root_delivers : (o : Option Beat) (j leg : ℕ) (s : State) → TellsRoot s → TellsRoot (after_arrival o j leg s)
 root_delivers None j leg s e = e
 root_delivers (Some b) j leg s e = let t = s.table in root_arrival (eqb leg 1) t.root b t.clock j (the j t) s.log ∙ e
 
-root_loses : (o : Option Beat) (j leg : ℕ) (s : Play) → TellsRoot s → TellsRoot (lost_as o j leg s)
+root_loses : (o : Option Beat) (j leg : ℕ) (s : State) → TellsRoot s → TellsRoot (after_loss_of o j leg s)
 root_loses None j leg s e = e
-root_loses (Some b) j leg s e = root_idle s.log (happens s.table.clock (sender leg j) Lost b.place) (λ r. refl) ∙ e
+root_loses (Some b) j leg s e = root_idle s.log (happening s.table.clock (sender leg j) Lost b.place) (λ r. refl) ∙ e
 
-root_crashes : (r : Root) (c : ℕ) (log : List Happening) → runs r ≡ true → root_told (tells_of c 0 HasCrashed log) ≡ root_crashed r c
-root_crashes Running c log e = read_mine root_step 0 Running log (happens c 0 HasCrashed (length log)) refl
+root_crashes : (r : Root) (c : ℕ) (log : List Happening) → runs r ≡ true → root_told (with_record c 0 HasCrashed log) ≡ root_after_crash r c
+root_crashes Running c log e = read_mine root_step 0 Running log (happening c 0 HasCrashed (length log)) refl
 root_crashes (Down how at) c log e = absurd (grind arith)
 
-root_crash : (j : ℕ) (s : Play) → can_crash j s ≡ true → TellsRoot s → TellsRoot (crashed j s)
+root_crash : (j : ℕ) (s : State) → can_crash j s ≡ true → TellsRoot s → TellsRoot (after_crash j s)
 root_crash zero s up e = root_crashes s.table.root s.table.clock s.log up
-root_crash (suc j) s up e = root_other s.log (happens s.table.clock (suc j) HasCrashed (length s.log)) (omega arith) ∙ e
+root_crash (suc j) s up e = root_other s.log (happening s.table.clock (suc j) HasCrashed (length s.log)) (omega arith) ∙ e
 
-root_starts : (last n : ℕ) (s : Play) → TellsRoot s → TellsRoot (sent last n s)
+root_starts : (last n : ℕ) (s : State) → TellsRoot s → TellsRoot (after_sending last n s)
 root_starts last n s e =
     let c = s.table.clock in
     passed_over n s.log s.table.parties (λ _ log p. send_log c log p)
-    (λ _ log p. root_conds (on_roll p.note.roll) _ _ _ (root_idle log (happens c 0 Sent (length log)) (λ r. refl)) refl) 1 ∙ e
+    (λ _ log p. root_conds (on_roll p.note.roll) _ _ _ (root_idle log (happening c 0 Sent (length log)) (λ r. refl)) refl) 1 ∙ e
   where
     passed_over : (n : ℕ) (log : List Happening) (ps : List Party) (g : ℕ → List Happening → Party → List Happening) →
         ((j : ℕ) (log : List Happening) (p : Party) → root_told (g j log p) ≡ root_told log) → (j : ℕ) → root_told (folds g j n log ps) ≡ root_told log
@@ -369,68 +384,69 @@ root_starts last n s e =
     passed_over (suc n) log [] g same j = refl
     passed_over (suc n) log (p ∷ ps) g same j = passed_over n (g j log p) ps g same (suc j) ∙ same j log p
 
-root_settles : (b : Bool) (m : Meaning) (n : ℕ) (s : Play) → TellsRoot s → TellsRoot (settled_as b m n s)
-root_settles true m n s e = read_mine root_step 0 Running s.log (happens s.table.clock 0 Stopped (length s.log)) refl
-root_settles false m n s e = root_starts (s.table.clock + trip m) n (started (shortest m.waits m.tmax n s.table.parties) s) e
+root_settles : (b : Bool) (rules : Rules) (s : State) → TellsRoot s → TellsRoot (after_verdict_of b rules s)
+root_settles true rules s e = read_mine root_step 0 Running s.log (happening s.table.clock 0 Stopped (length s.log)) refl
+root_settles false rules s e = root_starts (s.table.clock + trip rules.meaning) rules.plan.n
+    (after_start (shortest rules.meaning.waits rules.meaning.tmax rules.plan.n s.table.parties) s) e
 
-root_rounds : (b : Bool) (m : Meaning) (n : ℕ) (s : Play) → TellsRoot s → TellsRoot (rounded_as b m n s)
-root_rounds true m n s e = root_settles (any (missed_all (length m.waits)) n (counted n s).table.parties) m n (counted n s) e
-root_rounds false m n s e = e
+root_rounds : (b : Bool) (rules : Rules) (s : State) → TellsRoot s → TellsRoot (after_round_if b rules s)
+root_rounds true rules s e = root_settles _ rules (after_count rules.plan.n s) e
+root_rounds false rules s e = e
 
 root_word : (w : Option HappeningKind) (c j : ℕ) (log : List Happening) → 1 ≤ j → root_told (tells_if w c j log) ≡ root_told log
 root_word None c j log h = refl
-root_word (Some w) c j log h = root_other log (happens c j w (length log)) h
+root_word (Some w) c j log h = root_other log (happening c j w (length log)) h
 
-root_timers : (d l x n : ℕ) (s : Play) → TellsRoot s → TellsRoot (timed d l x n s)
+root_timers : (d l x n : ℕ) (s : State) → TellsRoot s → TellsRoot (after_timers d l x n s)
 root_timers d l x n s e =
     read_past root_step 0 Running (λ j log (p : Party). timer_log p.own.standing s.table.clock d l p.own.since j log)
     (λ j log p past. root_word _ s.table.clock j log (omega arith)) 1 n s.log s.table.parties (omega arith)
     ∙ e
 
 -- a round leaves as many parties
-pub rounds_long : (b : Bool) (m : Meaning) (n : ℕ) (s : Play) → n ≤ length s.table.parties → n ≤ length (rounded_as b m n s).table.parties
-rounds_long true m n s h = go (any (missed_all (length m.waits)) n (counted n s).table.parties) (counted n s)
-    (walks_long (λ _ (u : ℕ) p. missed p) (λ _ (u : ℕ) _. u) 1 n 0 s.table.parties n h)
+pub rounds_long : (b : Bool) (rules : Rules) (s : State) → rules.plan.n ≤ length s.table.parties → rules.plan.n ≤ length (after_round_if b rules s).table.parties
+rounds_long true rules s h = go _ (after_count rules.plan.n s)
+    (walks_long (λ _ (u : ℕ) p. missed p) (λ _ (u : ℕ) _. u) 1 rules.plan.n 0 s.table.parties rules.plan.n h)
   where
-    go : (b : Bool) (s : Play) → n ≤ length s.table.parties → n ≤ length (settled_as b m n s).table.parties
+    go : (b : Bool) (s : State) → rules.plan.n ≤ length s.table.parties → rules.plan.n ≤ length (after_verdict_of b rules s).table.parties
     go true s h = h
-    go false s h = walks_long _ _ 1 n s.log s.table.parties n h
-rounds_long false m n s h = h
+    go false s h = walks_long _ _ 1 rules.plan.n s.log s.table.parties rules.plan.n h
+rounds_long false rules s h = h
 
 -- the whole group, over a run
 
-module _ (m : Meaning) (plan : Plan) (room : ℕ) where
+module _ (rules : Rules) where
   -- there are parties enough, and the log tells of each and of the root
-  record AllTold (s : Play) : Type 0 where
-    pub long : plan.n ≤ length s.table.parties
-    pub tells : TellsTheGroup plan s
+  record AllTold (s : State) : Type 0 where
+    pub long : rules.plan.n ≤ length s.table.parties
+    pub tells : TellsTheGroup rules s
 
   asked_crash : (i : ℕ) (a b : Bool) (x : ℕ) → asks a 6 (asks b 8 x) ≡ 0 → b ≡ true
   asked_crash i a b x e = grind arith
 
-  does_root : (call : Call) (s : Play) → number plan room call s ≡ 0 → TellsRoot s → TellsRoot (done m plan call s)
-  does_root Tick s z e = root_timers (patience m plan.kind) m.tmin (trip m) plan.n (rounded m plan.n s) (root_rounds (round_ends s.table) m plan.n s e)
+  does_root : (call : Call) (s : State) → number rules call s ≡ 0 → TellsRoot s → TellsRoot (effect rules call s)
+  does_root Tick s z e = root_timers (patience rules.meaning rules.plan.kind) rules.meaning.tmin (trip rules.meaning) rules.plan.n (after_round rules s) (root_rounds (round_ends s.table) rules s e)
   does_root (Deliver i leg) s z e = root_delivers (on_leg leg (the i s.table)) i leg s e
   does_root (Lose i leg) s z e = root_loses (on_leg leg (the i s.table)) i leg s e
-  does_root (Crash i) s z e = root_crash i s (asked_crash i (leb i plan.n) (can_crash i s) _ z) e
+  does_root (Crash i) s z e = root_crash i s (asked_crash i (leb i rules.plan.n) (can_crash i s) _ z) e
   does_root (Join i) s z e =
-      let h = happens s.table.clock i IsJoining (length s.log) in
-      root_idle (s.log ++ h ∷ []) (happens s.table.clock i Sent (length (s.log ++ h ∷ []))) (λ r. refl) ∙ root_idle s.log h (λ r. refl) ∙ e
-  does_root (Leave i) s z e = root_idle s.log (happens s.table.clock i IsLeaving (length s.log)) (λ r. refl) ∙ e
+      let h = happening s.table.clock i IsJoining (length s.log) in
+      root_idle (s.log ++ h ∷ []) (happening s.table.clock i Sent (length (s.log ++ h ∷ []))) (λ r. refl) ∙ root_idle s.log h (λ r. refl) ∙ e
+  does_root (Leave i) s z e = root_idle s.log (happening s.table.clock i IsLeaving (length s.log)) (λ r. refl) ∙ e
 
-  set_long : (ps : List Party) (i : ℕ) (p : Party) → plan.n ≤ length ps → plan.n ≤ length (set ps i p)
+  set_long : (ps : List Party) (i : ℕ) (p : Party) → rules.plan.n ≤ length ps → rules.plan.n ≤ length (set ps i p)
   set_long ps i p h = omega (arith, length-set ps i p)
 
-  delivers_long : (o : Option Beat) (i leg : ℕ) (s : Play) → plan.n ≤ length s.table.parties → plan.n ≤ length (delivered_as o i leg s).table.parties
+  delivers_long : (o : Option Beat) (i leg : ℕ) (s : State) → rules.plan.n ≤ length s.table.parties → rules.plan.n ≤ length (after_arrival o i leg s).table.parties
   delivers_long None i leg s h = h
   delivers_long (Some b) i leg s h = set_long s.table.parties (i - 1) _ h
 
-  loses_long : (o : Option Beat) (i leg : ℕ) (s : Play) → plan.n ≤ length s.table.parties → plan.n ≤ length (lost_as o i leg s).table.parties
+  loses_long : (o : Option Beat) (i leg : ℕ) (s : State) → rules.plan.n ≤ length s.table.parties → rules.plan.n ≤ length (after_loss_of o i leg s).table.parties
   loses_long None i leg s h = h
   loses_long (Some b) i leg s h = set_long s.table.parties (i - 1) _ h
 
-  does_long : (call : Call) (s : Play) → plan.n ≤ length s.table.parties → plan.n ≤ length (done m plan call s).table.parties
-  does_long Tick s h = walks_long _ _ 1 plan.n (rounded m plan.n s).log (rounded m plan.n s).table.parties plan.n (rounds_long (round_ends s.table) m plan.n s h)
+  does_long : (call : Call) (s : State) → rules.plan.n ≤ length s.table.parties → rules.plan.n ≤ length (effect rules call s).table.parties
+  does_long Tick s h = walks_long _ _ 1 rules.plan.n (after_round rules s).log (after_round rules s).table.parties rules.plan.n (rounds_long (round_ends s.table) rules s h)
   does_long (Deliver i leg) s h = delivers_long (on_leg leg (the i s.table)) i leg s h
   does_long (Lose i leg) s h = loses_long (on_leg leg (the i s.table)) i leg s h
   does_long (Crash zero) s h = h
@@ -438,19 +454,19 @@ module _ (m : Meaning) (plan : Plan) (room : ℕ) where
   does_long (Join i) s h = set_long s.table.parties (i - 1) _ h
   does_long (Leave i) s h = set_long s.table.parties (i - 1) _ h
 
-  module _ (i : ℕ) (lo : 1 ≤ i) (hi : i ≤ plan.n) where
-    does_party : (call : Call) (s : Play) → number plan room call s ≡ 0 → plan.n ≤ length s.table.parties →
-        told_of plan.kind i s.log ≡ account_of (the i s.table) → told_of plan.kind i (done m plan call s).log ≡ account_of (the i (done m plan call s).table)
+  module _ (i : ℕ) (lo : 1 ≤ i) (hi : i ≤ rules.plan.n) where
+    does_party : (call : Call) (s : State) → number rules call s ≡ 0 → rules.plan.n ≤ length s.table.parties →
+        told_of rules.plan.kind i s.log ≡ account_of (the i s.table) → told_of rules.plan.kind i (effect rules call s).log ≡ account_of (the i (effect rules call s).table)
     does_party Tick s z long e =
-        timers plan.kind plan.n i lo hi (patience m plan.kind) m.tmin (trip m) (rounded m plan.n s) (rounds_long (round_ends s.table) m plan.n s long)
-        (rounds plan.kind plan.n i lo hi (round_ends s.table) m s long e)
-    does_party (Deliver j leg) s z long e = delivers plan.kind plan.n i lo hi (on_leg leg (the j s.table)) j leg s refl (asked_party plan.n j _ z).0 long e
-    does_party (Lose j leg) s z long e = loses_one plan.kind plan.n i lo hi (on_leg leg (the j s.table)) j leg s (asked_party plan.n j _ z).0 long e
-    does_party (Crash j) s z long e = crashes_one plan.kind plan.n i lo hi j s long e
-    does_party (Join j) s z long e = joins_one plan.kind plan.n i lo hi m j s (asked_party plan.n j _ z).0 long e
-    does_party (Leave j) s z long e = leaves_one plan.kind plan.n i lo hi j s (asked_party plan.n j _ z).0 long e
+        timers rules i lo hi (patience rules.meaning rules.plan.kind) rules.meaning.tmin (trip rules.meaning) (after_round rules s) (rounds_long (round_ends s.table) rules s long)
+        (rounds rules i lo hi (round_ends s.table) s long e)
+    does_party (Deliver j leg) s z long e = delivers rules i lo hi (on_leg leg (the j s.table)) j leg s refl (asked_party rules.plan.n j _ z).0 long e
+    does_party (Lose j leg) s z long e = loses_one rules i lo hi (on_leg leg (the j s.table)) j leg s (asked_party rules.plan.n j _ z).0 long e
+    does_party (Crash j) s z long e = crashes_one rules i lo hi j s long e
+    does_party (Join j) s z long e = joins_one rules i lo hi j s (asked_party rules.plan.n j _ z).0 long e
+    does_party (Leave j) s z long e = leaves_one rules i lo hi j s (asked_party rules.plan.n j _ z).0 long e
 
-  performs : (call : Call) (s : Play) (k : ℕ) → number plan room call s ≡ k → AllTold s → AllTold (unless k s (done m plan call s))
+  performs : (call : Call) (s : State) (k : ℕ) → number rules call s ≡ k → AllTold s → AllTold (unless k s (effect rules call s))
   performs call s zero z w = record {
     long = does_long call s w.long;
     tells = record {
@@ -460,21 +476,21 @@ module _ (m : Meaning) (plan : Plan) (room : ℕ) where
   }
   performs call s (suc k) z w = w
 
-  plays : (calls : List Call) (s : Play) → AllTold s → AllTold (played m plan room calls s)
+  plays : (calls : List Call) (s : State) → AllTold s → AllTold (state_after rules calls s)
   plays [] s w = w
-  plays (call ∷ calls) s w = plays calls (perform m plan room call s) (performs call s (number plan room call s) refl w)
+  plays (call ∷ calls) s w = plays calls (perform rules call s) (performs call s (number rules call s) refl w)
 
   fresh_told : (kind : GroupKind) → first_account kind ≡ account_of (fresh kind)
   fresh_told kind = grind arith
 
-  opens : AllTold (opened m plan)
+  opens : AllTold (opening rules)
   opens = record {
-    long = omega (arith, plan.few);
+    long = omega (arith, rules.plan.few);
     tells = record {
-      party = λ i lo hi. fresh_told plan.kind ∙ ap account_of (sym (get_or-replicate 32 (i - 1) (fresh plan.kind) nobody (omega (arith, plan.few))));
+      party = λ i lo hi. fresh_told rules.plan.kind ∙ ap account_of (sym (get_or-replicate 32 (i - 1) (fresh rules.plan.kind) nobody (omega (arith, rules.plan.few))));
       root = refl;
     };
   }
 
 pub tells_the_group : RunsTellTheirGroup
-tells_the_group m sound plan room calls = (plays m plan room calls (opened m plan) (opens m plan room)).tells
+tells_the_group rules sound calls = (plays rules calls (opening rules) (opens rules)).tells

@@ -10,14 +10,15 @@ use Rattle.protocol.specs.declared.party.Standing.TheVariants.{Outside, Live, En
 use Rattle.protocol.specs.declared.party.Roll.{Roll}
 use Rattle.protocol.specs.declared.party.Roll.TheVariants.{Off, On, Struck}
 use Rattle.protocol.specs.declared.happening.Happening.{Happening}
-use Rattle.protocol.specs.declared.plan.Plan.{Plan}
 use Rattle.protocol.specs.declared.call.Call.{Call}
 use Rattle.protocol.specs.declared.call.Call.TheVariants.{Tick, Deliver, Lose, Crash, Join, Leave}
 use Rattle.pace.specs.Meaning.{Meaning, Lawful}
-use Rattle.protocol.specs.Patience.{trip, patience}
-use Rattle.protocol.specs.Party.{beat, nobody, on_leg, missed, sends, sends_as, missed_all, times, times_as, times_live, calls_in}
-use Rattle.protocol.specs.Group.{Play, the, sender, any, counted, settled_as, rounded_as, rounded, round_ends, timed, opened}
-use Rattle.protocol.specs.Runs.{number, done, unless, perform, played, reached}
+use Rattle.protocol.specs.Rules.{trip, patience, Rules}
+use Rattle.protocol.specs.Party.{beat, nobody, on_leg}
+use Rattle.protocol.specs.calls.Tick.{missed, sends, sends_as, missed_all, times, times_as, times_live, calls_in, any, after_count, after_verdict_of, after_round_if, after_round, round_ends, after_timers}
+use Rattle.protocol.specs.State.{State, the, opening}
+use Rattle.protocol.specs.calls.Lose.{sender}
+use Rattle.protocol.specs.Runs.{number, effect, unless, perform, state_after, run_state}
 use Rattle.protocol.specs.Rehearsals.{adds}
 use Rattle.protocol.specs.Beats.{is_arrival, is_loss, settles, happening_at, SentBy}
 use Rattle.protocol.specs.Sendings.{UnderWay}
@@ -69,58 +70,64 @@ times_fresh Outside p₀ c d l last place p f = f
 times_fresh (Live g) p₀ c d l last place p f = live_fresh (leb d (c - p.own.since)) (calls_in g l (c - p.own.since)) g p₀ c last place p f
 times_fresh (Ended how e g) p₀ c d l last place p f = f
 
-module _ (n k : ℕ) (h : k < n) (p₀ : Party) (m : Meaning) (c : ℕ) where
-  abbrev At : Play → Type 0
+module _ (rules : Rules) (k : ℕ) (h : k < rules.plan.n) (p₀ : Party) (c : ℕ) where
+  abbrev n : ℕ
+  n = rules.plan.n
+
+  abbrev m : Meaning
+  m = rules.meaning
+
+  abbrev At : State → Type 0
   At s = Fresh p₀ (c + trip m) (get_or s.table.parties k nobody)
 
-  counts : (s : Play) → n ≤ length s.table.parties → At s → At (counted n s)
+  counts : (s : State) → n ≤ length s.table.parties → At s → At (after_count n s)
   counts s long f = walks_each _ _ (Fresh p₀ (c + trip m)) (Fresh p₀ (c + trip m)) (λ _ (u : ℕ) p f. f) 1 n 0 s.table.parties nobody k h long f
 
-  settles_round : (b : Bool) (s : Play) → s.table.clock ≡ c → n ≤ length s.table.parties → At s → At (settled_as b m n s)
+  settles_round : (b : Bool) (s : State) → s.table.clock ≡ c → n ≤ length s.table.parties → At s → At (after_verdict_of b rules s)
   settles_round true s e long f = f
   settles_round false s e long f =
       walks_each _ _ (Fresh p₀ (c + trip m)) (Fresh p₀ (c + trip m))
       (λ _ log p f. subst (λ x. Fresh p₀ (c + trip m) (sends (x + trip m) (length log) p)) (sym e) (sends_fresh p.note.roll p₀ (c + trip m) (length log) p f))
       1 n s.log s.table.parties nobody k h long f
 
-  rounds : (b : Bool) (s : Play) → s.table.clock ≡ c → n ≤ length s.table.parties → At s → At (rounded_as b m n s)
+  rounds : (b : Bool) (s : State) → s.table.clock ≡ c → n ≤ length s.table.parties → At s → At (after_round_if b rules s)
   rounds true s e long f =
-      settles_round (any (missed_all (length m.waits)) n (counted n s).table.parties) (counted n s) e
+      settles_round (any (missed_all (length m.waits)) n (after_count n s).table.parties) (after_count n s) e
       (walks_long (λ _ (u : ℕ) p. missed p) (λ _ (u : ℕ) _. u) 1 n 0 s.table.parties n long) (counts s long f)
   rounds false s e long f = f
 
-  timers : (d l : ℕ) (s : Play) → s.table.clock ≡ c → n ≤ length s.table.parties → At s → At (timed d l (trip m) n s)
+  timers : (d l : ℕ) (s : State) → s.table.clock ≡ c → n ≤ length s.table.parties → At s → At (after_timers d l (trip m) n s)
   timers d l s e long f =
       walks_each _ _ (Fresh p₀ (c + trip m)) (Fresh p₀ (c + trip m))
       (λ _ log p f. subst (λ x. Fresh p₀ (c + trip m) (times x d l (x + trip m) (length log) p)) (sym e) (times_fresh p.own.standing p₀ c d l (c + trip m) (length log) p f))
       1 n s.log s.table.parties nobody k h long f
 
-module _ (m : Meaning) (sound : Lawful m) (plan : Plan) (room : ℕ) where
-  performed : (call : Call) (s : Play) → number plan room call s ≡ 0 → perform m plan room call s ≡ done m plan call s
-  performed call s z = ap (λ k. unless k s (done m plan call s)) z
+module _ (rules : Rules) (sound : Lawful rules.meaning) where
+  performed : (call : Call) (s : State) → number rules call s ≡ 0 → perform rules call s ≡ effect rules call s
+  performed call s z = ap (λ k. unless k s (effect rules call s)) z
 
   -- a call that is no tick leaves the clock
-  later : (before : List Call) (call : Call) (i leg : ℕ) (b : Beat) → let s = reached m plan room before in
-      number plan room call s ≡ 0 → 1 ≤ i → i ≤ plan.n → on_leg leg (the i (done m plan call s).table) ≡ Some b → adds call true ≡ 0 →
-      b.last ≤ s.table.clock + trip m
+  later : (before : List Call) (call : Call) (i leg : ℕ) (b : Beat) → let s = run_state rules before in
+      number rules call s ≡ 0 → 1 ≤ i → i ≤ rules.plan.n → on_leg leg (the i (effect rules call s).table) ≡ Some b → adds call true ≡ 0 →
+      b.last ≤ s.table.clock + trip rules.meaning
   later before call i leg b z lo hi e still =
-      let s = reached m plan room before in
-      let same = played_snoc m plan room before call (opened m plan) ∙ performed call s z in
-      let f = last_ticks m sound plan room (before ++ call ∷ []) i leg b lo hi (subst (λ (t : Play). on_leg leg (the i t.table) ≡ Some b) (sym same) e) in
-      omega (arith, f.1, ap (λ (t : Play). t.table.clock) same, done_clock m plan call s, still)
+      let s = run_state rules before in
+      let same = played_snoc rules before call (opening rules) ∙ performed call s z in
+      let f = last_ticks rules sound (before ++ call ∷ []) i leg b lo hi (subst (λ (t : State). on_leg leg (the i t.table) ≡ Some b) (sym same) e) in
+      omega (arith, f.1, ap (λ (t : State). t.table.clock) same, done_clock rules call s, still)
 
   -- a beat that a granted call has put on a leg comes no later than a trip after the call
-  puts : (before : List Call) (call : Call) (i leg : ℕ) (b : Beat) → let s = reached m plan room before in
-      number plan room call s ≡ 0 → 1 ≤ i → i ≤ plan.n → on_leg leg (the i (done m plan call s).table) ≡ Some b →
-      (on_leg leg (the i s.table) ≡ Some b) ⊎ (b.last ≤ s.table.clock + trip m)
+  puts : (before : List Call) (call : Call) (i leg : ℕ) (b : Beat) → let s = run_state rules before in
+      number rules call s ≡ 0 → 1 ≤ i → i ≤ rules.plan.n → on_leg leg (the i (effect rules call s).table) ≡ Some b →
+      (on_leg leg (the i s.table) ≡ Some b) ⊎ (b.last ≤ s.table.clock + trip rules.meaning)
   puts before Tick i leg b z lo hi e =
-      let s = reached m plan room before in
-      let long = (logged_after m plan room before).0.long in
+      let s = run_state rules before in
+      let long = (logged_after rules before).0.long in
       let ends = round_ends s.table in
-      let same = rounded_clock m plan.n ends s in
+      let same = rounded_clock rules ends s in
       let p₀ = get_or s.table.parties (i - 1) nobody in
-      elim (timers plan.n (i - 1) (omega arith) p₀ m s.table.clock (patience m plan.kind) m.tmin (rounded m plan.n s) same (rounds_long ends m plan.n s long)
-      (rounds plan.n (i - 1) (omega arith) p₀ m s.table.clock ends s refl long (λ leg b e. inl e)) leg b e)
+      elim (timers rules (i - 1) (omega arith) p₀ s.table.clock (patience rules.meaning rules.plan.kind) rules.meaning.tmin (after_round rules s) same (rounds_long ends rules s long)
+      (rounds rules (i - 1) (omega arith) p₀ s.table.clock ends s refl long (λ leg b e. inl e)) leg b e)
       [ inl old ↦ inl old | inr new ↦ inr (omega (arith, new)) ]
   puts before (Deliver j l) i leg b z lo hi e = inr (later before (Deliver j l) i leg b z lo hi e refl)
   puts before (Lose j l) i leg b z lo hi e = inr (later before (Lose j l) i leg b z lo hi e refl)
@@ -130,58 +137,58 @@ module _ (m : Meaning) (sound : Lawful m) (plan : Plan) (room : ℕ) where
 
   -- the last tick of a beat on a leg, by its sending
 
-  module _ (calls : List Call) (i leg : ℕ) (b : Beat) (lo : 1 ≤ i) (hi : i ≤ plan.n) where
-    written_at : (before : List Call) (call : Call) (k : ℕ) → let now = reached m plan room before in
-        number plan room call now ≡ k → length now.log ≤ b.place →
-        SentBy (unless k now (done m plan call now)).log (sender leg i) b.place → on_leg leg (the i (unless k now (done m plan call now)).table) ≡ Some b →
-        b.last ≤ tick_at (unless k now (done m plan call now)).log b.place + trip m
+  module _ (calls : List Call) (i leg : ℕ) (b : Beat) (lo : 1 ≤ i) (hi : i ≤ rules.plan.n) where
+    written_at : (before : List Call) (call : Call) (k : ℕ) → let now = run_state rules before in
+        number rules call now ≡ k → length now.log ≤ b.place →
+        SentBy (unless k now (effect rules call now)).log (sender leg i) b.place → on_leg leg (the i (unless k now (effect rules call now)).table) ≡ Some b →
+        b.last ≤ tick_at (unless k now (effect rules call now)).log b.place + trip rules.meaning
     written_at before call zero z not_yet written put =
         elim (puts before call i leg b z lo hi put) [
-          | inl old ↦ absurd (omega (arith, (held m plan room before i leg b lo hi old).below))
-          | inr new ↦ omega (arith, new, ((writes m plan room call (reached m plan room before) z).fresh b.place not_yet written.below).1)
+          | inl old ↦ absurd (omega (arith, (held rules before i leg b lo hi old).below))
+          | inr new ↦ omega (arith, new, ((writes rules call (run_state rules before) z).fresh b.place not_yet written.below).1)
         ]
-    written_at before call (suc k) z not_yet written put = absurd (omega (arith, (held m plan room before i leg b lo hi put).below))
+    written_at before call (suc k) z not_yet written put = absurd (omega (arith, (held rules before i leg b lo hi put).below))
 
-    last_after_sending : on_leg leg (the i (reached m plan room calls).table) ≡ Some b → b.last ≤ tick_at (reached m plan room calls).log b.place + trip m
+    last_after_sending : on_leg leg (the i (run_state rules calls).table) ≡ Some b → b.last ≤ tick_at (run_state rules calls).log b.place + trip rules.meaning
     last_after_sending e =
-        let p = put_by m plan room calls i leg b lo hi e in
-        let now = reached m plan room p.before in
-        let then = perform m plan room p.call now in
-        let near = written_at p.before p.call (number plan room p.call now) refl p.not_yet p.written p.put in
-        let kept = (grows m plan room p.after then).kept b.place p.written.below in
-        let same : reached m plan room calls ≡ played m plan room p.after then =
-        ap (λ cs. reached m plan room cs) p.among ∙ played_cut m plan room p.before p.call p.after (opened m plan) in
-        omega (arith, near, ap (λ (h : Happening). h.tick) kept, ap (λ (t : Play). tick_at t.log b.place) same)
+        let p = put_by rules calls i leg b lo hi e in
+        let now = run_state rules p.before in
+        let then = perform rules p.call now in
+        let near = written_at p.before p.call (number rules p.call now) refl p.not_yet p.written p.put in
+        let kept = (grows rules p.after then).kept b.place p.written.below in
+        let same : run_state rules calls ≡ state_after rules p.after then =
+        ap (λ cs. run_state rules cs) p.among ∙ played_cut rules p.before p.call p.after (opening rules) in
+        omega (arith, near, ap (λ (h : Happening). h.tick) kept, ap (λ (t : State). tick_at t.log b.place) same)
 
   -- arrivals and losses
 
   abbrev InTime : List Happening → Type 0
-  InTime log = (k : ℕ) → k < length log → settles (happening_at log k).kind ≡ true → tick_at log k ≤ tick_at log (happening_at log k).link + trip m
+  InTime log = (k : ℕ) → k < length log → settles (happening_at log k).kind ≡ true → tick_at log k ≤ tick_at log (happening_at log k).link + trip rules.meaning
 
   -- an arrival or a loss links to an earlier place
-  linked_before : (calls : List Call) → let log = (reached m plan room calls).log in
+  linked_before : (calls : List Call) → let log = (run_state rules calls).log in
       (k : ℕ) → k < length log → settles (happening_at log k).kind ≡ true → (happening_at log k).link < k
   linked_before calls k below is =
-      let log = (reached m plan room calls).log in
-      let t = (logged_after m plan room calls).0 in
+      let log = (run_state rules calls).log in
+      let t = (logged_after rules calls).0 in
       go (is_arrival (happening_at log k).kind) (is_loss (happening_at log k).kind) (λ e. (t.linked k below e).earlier) (λ e. (t.losses k below e).earlier) is
     where
-      go : (x y : Bool) → (x ≡ true → (happening_at (reached m plan room calls).log k).link < k) → (y ≡ true → (happening_at (reached m plan room calls).log k).link < k) →
-          (x || y) ≡ true → (happening_at (reached m plan room calls).log k).link < k
+      go : (x y : Bool) → (x ≡ true → (happening_at (run_state rules calls).log k).link < k) → (y ≡ true → (happening_at (run_state rules calls).log k).link < k) →
+          (x || y) ≡ true → (happening_at (run_state rules calls).log k).link < k
       go true y f g e = f refl
       go false true f g e = g refl
       go false false f g e = absurd (grind arith)
 
   module _ (before : List Call) where
-    abbrev now : Play
-    now = reached m plan room before
+    abbrev now : State
+    now = run_state rules before
 
     abbrev Writes : List Happening → Type 0
-    Writes = Grown (Wrote plan.n now.table.clock (UnderWay plan.n now.table)) now.log
+    Writes = Grown (Wrote rules.plan.n now.table.clock (UnderWay rules.plan.n now.table)) now.log
 
     -- a record that stood there
     earlier : (log : List Happening) (k : ℕ) → Writes log → InTime now.log → k < length now.log → settles (happening_at log k).kind ≡ true →
-        tick_at log k ≤ tick_at log (happening_at log k).link + trip m
+        tick_at log k ≤ tick_at log (happening_at log k).link + trip rules.meaning
     earlier log k g old early is =
         let e = g.kept k early in
         let is' : settles (happening_at now.log k).kind ≡ true = ap (λ (h : Happening). settles h.kind) (sym e) ∙ is in
@@ -191,39 +198,39 @@ module _ (m : Meaning) (sound : Lawful m) (plan : Plan) (room : ℕ) where
         omega (arith, old k early is', ap (λ (h : Happening). h.tick) e, same)
 
     -- a new one, of a beat that was under way
-    latest : (log : List Happening) (h : Happening) → Writes log → Wrote plan.n now.table.clock (UnderWay plan.n now.table) h → settles h.kind ≡ true →
-        h.tick ≤ tick_at log h.link + trip m
+    latest : (log : List Happening) (h : Happening) → Writes log → Wrote rules.plan.n now.table.clock (UnderWay rules.plan.n now.table) h → settles h.kind ≡ true →
+        h.tick ≤ tick_at log h.link + trip rules.meaning
     latest log h g w is =
         let u = w.2 is in
         let b = u.beat in
-        let last = last_ticks m sound plan room before u.party u.leg b u.of_a_party.0 u.of_a_party.1 u.stands in
+        let last = last_ticks rules sound before u.party u.leg b u.of_a_party.0 u.of_a_party.1 u.stands in
         let near = last_after_sending before u.party u.leg b u.of_a_party.0 u.of_a_party.1 u.stands in
-        let below = (held m plan room before u.party u.leg b u.of_a_party.0 u.of_a_party.1 u.stands).below in
+        let below = (held rules before u.party u.leg b u.of_a_party.0 u.of_a_party.1 u.stands).below in
         let same : tick_at log h.link ≡ tick_at now.log b.place =
         ap (tick_at log) (sym u.sent_there) ∙ ap (λ (x : Happening). x.tick) (g.kept b.place below) in
         omega (arith, w.1, last.0, near, same)
 
-    settles_in_time : (call : Call) (k : ℕ) → number plan room call now ≡ k → InTime now.log → InTime (unless k now (done m plan call now)).log
+    settles_in_time : (call : Call) (k : ℕ) → number rules call now ≡ k → InTime now.log → InTime (unless k now (effect rules call now)).log
     settles_in_time call zero z old k below is =
-        let log = (done m plan call now).log in
-        let g = writes m plan room call now z in
+        let log = (effect rules call now).log in
+        let g = writes rules call now z in
         elim (dec_lt k (length now.log)) [
           | yes early ↦ earlier log k g old early is
           | no late ↦ latest log (happening_at log k) g (g.fresh k (omega arith) below) is
         ]
     settles_in_time call (suc j) z old k below is = old k below is
 
-  plays : (before later : List Call) → InTime (reached m plan room before).log → InTime (reached m plan room (before ++ later)).log
-  plays before [] a = subst (λ calls. InTime (reached m plan room calls).log) (sym (append-nil before)) a
+  plays : (before later : List Call) → InTime (run_state rules before).log → InTime (run_state rules (before ++ later)).log
+  plays before [] a = subst (λ calls. InTime (run_state rules calls).log) (sym (append-nil before)) a
   plays before (call ∷ later) a =
-      let s = reached m plan room before in
-      let next = settles_in_time before call (number plan room call s) refl a in
-      subst (λ calls. InTime (reached m plan room calls).log) (append_assoc before (call ∷ []) later)
-      (plays (before ++ call ∷ []) later (subst (λ (t : Play). InTime t.log) (sym (played_snoc m plan room before call (opened m plan))) next))
+      let s = run_state rules before in
+      let next = settles_in_time before call (number rules call s) refl a in
+      subst (λ calls. InTime (run_state rules calls).log) (append_assoc before (call ∷ []) later)
+      (plays (before ++ call ∷ []) later (subst (λ (t : State). InTime t.log) (sym (played_snoc rules before call (opening rules))) next))
 
 pub in_time : RunsBringBeatsInTime
-in_time m sound plan room calls = record {
-  settled = plays m sound plan room [] calls (λ k below. absurd (omega arith));
+in_time rules sound calls = record {
+  settled = plays rules sound [] calls (λ k below. absurd (omega arith));
   under_way = λ i leg b lo hi e.
-      ((last_ticks m sound plan room calls i leg b lo hi e).0, last_after_sending m sound plan room calls i leg b lo hi e);
+      ((last_ticks rules sound calls i leg b lo hi e).0, last_after_sending rules sound calls i leg b lo hi e);
 }

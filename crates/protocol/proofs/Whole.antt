@@ -16,14 +16,21 @@ use Rattle.protocol.specs.declared.kind.GroupKind.{GroupKind}
 use Rattle.protocol.specs.declared.kind.GroupKind.TheVariants.{Closed}
 use Rattle.protocol.specs.declared.happening.Happening.{Happening}
 use Rattle.protocol.specs.declared.table.Table.{Table}
-use Rattle.protocol.specs.declared.plan.Plan.{Plan}
 use Rattle.protocol.specs.declared.call.Call.{Call}
 use Rattle.protocol.specs.declared.call.Call.TheVariants.{Tick, Deliver, Lose, Crash, Join, Leave}
 use Rattle.pace.specs.Meaning.{Meaning, Lawful}
-use Rattle.protocol.specs.Patience.{trip, patience}
-use Rattle.protocol.specs.Party.{nobody, fresh, on_leg, due, missed_all, missed, sends}
-use Rattle.protocol.specs.Group.{Play, the, with_parties, with_root, delivered, delivered_as, loses, lost_as, crashed, root_crashed, joins, leaves, any, shorter, shortest, counted, settled_as, rounded_as, rounded, round_ends, runs, timed, later, ticked, opened}
-use Rattle.protocol.specs.Runs.{number, done, unless, perform, played, answered, unharmed, spares, asks, may_join, may_leave, is_outside, is_in, is_party, is_there, log_asks}
+use Rattle.protocol.specs.Rules.{trip, patience, Rules}
+use Rattle.protocol.specs.Party.{nobody, fresh, on_leg}
+use Rattle.protocol.specs.calls.Tick.{due, missed_all, missed, sends, any, shorter, shortest, after_count, after_verdict_of, after_round_if, after_round, round_ends, after_timers, after_clock, after_tick}
+use Rattle.protocol.specs.State.{State, the, with_parties, with_root, runs, opening}
+use Rattle.protocol.specs.calls.Deliver.{after_delivery, after_arrival}
+use Rattle.protocol.specs.calls.Lose.{after_loss, after_loss_of}
+use Rattle.protocol.specs.calls.Crash.{after_crash, root_after_crash}
+use Rattle.protocol.specs.calls.Join.{after_join, may_join, is_outside}
+use Rattle.protocol.specs.calls.Leave.{after_leave, may_leave, is_in}
+use Rattle.protocol.specs.Runs.{number, effect, unless, perform, state_after, numbers, unharmed, spares}
+use Rattle.std.specs.Prelude.{is_some}
+use Rattle.protocol.specs.Questions.{asks, is_party, log_asks}
 use Rattle.protocol.specs.Beats.{FreeFor, BeatsTakeFreeLegs}
 use Rattle.protocol.specs.Kept.{Terms, LawfulTerms, Kept, Scene, Whole, terms}
 use Rattle.protocol.proofs.Numbers.{lawful}
@@ -55,15 +62,15 @@ module _ (m : Terms) (kind : GroupKind) (law : LawfulTerms m kind) (n : ℕ) whe
   fades : (q : Bool) (t : Table) → Scene m t.clock t.root t.start t.length → (x : Party) → KeptAt q t x → KeptAt false t x
   fades q t s x k = step.elsewhere m kind law q _ _ _ _ s x k
 
-  delivers_as : (q : Bool) (o : Option Beat) (i leg : ℕ) (s : Play) → on_leg leg (the i s.table) ≡ o → Whole m kind q n s.table → Whole m kind q n (delivered_as o i leg s).table
+  delivers_as : (q : Bool) (o : Option Beat) (i leg : ℕ) (s : State) → on_leg leg (the i s.table) ≡ o → Whole m kind q n s.table → Whole m kind q n (after_arrival o i leg s).table
   delivers_as q None i leg s e w = w
   delivers_as q (Some b) i leg s e w = one q q s.table (i - 1) _ _ w (λ x k. k) (λ k. step.arrive m kind law q _ _ _ _ w.scene _ k leg b _ e)
 
-  loses_as : (q : Bool) (o : Option Beat) (i leg : ℕ) (s : Play) → Whole m kind q n s.table → Whole m kind false n (lost_as o i leg s).table
+  loses_as : (q : Bool) (o : Option Beat) (i leg : ℕ) (s : State) → Whole m kind q n s.table → Whole m kind false n (after_loss_of o i leg s).table
   loses_as q None i leg s w = record { scene = w.scene; each = λ k h. fades q s.table w.scene _ (w.each k h); long = w.long }
   loses_as q (Some b) i leg s w = one q false s.table (i - 1) _ _ w (fades q s.table w.scene) (λ k. step.lose m kind law q _ _ _ _ w.scene _ k leg)
 
-  crashes_root : (q : Bool) (r : Root) (t : Table) (log : List Happening) → t.root ≡ r → Whole m kind q n t → Whole m kind false n (with_root (root_crashed r t.clock) log t).table
+  crashes_root : (q : Bool) (r : Root) (t : Table) (log : List Happening) → t.root ≡ r → Whole m kind q n t → Whole m kind false n (with_root (root_after_crash r t.clock) log t).table
   crashes_root q Running t log e w = record {
     scene = let s = w.scene in grind arith;
     each = λ k h. step.root_crashes m kind law q _ _ _ _ w.scene _ (w.each k h) e;
@@ -75,7 +82,7 @@ module _ (m : Terms) (kind : GroupKind) (law : LawfulTerms m kind) (n : ℕ) whe
     long = w.long;
   }
 
-  crashes_any : (q : Bool) (i : ℕ) (s : Play) → Whole m kind q n s.table → Whole m kind false n (crashed i s).table
+  crashes_any : (q : Bool) (i : ℕ) (s : State) → Whole m kind q n s.table → Whole m kind false n (after_crash i s).table
   crashes_any q zero s w = crashes_root q s.table.root s.table _ refl w
   crashes_any q (suc i) s w = one q false s.table (suc i - 1) _ _ w (fades q s.table w.scene) (λ k. step.crash m kind law q _ _ _ _ w.scene _ k)
 
@@ -85,26 +92,35 @@ pub record Amid (m : Terms) (kind : GroupKind) (q : Bool) (n : ℕ) (t : Table) 
   pub early : t.root ≡ Running → t.clock < t.start + t.length
   pub quiet : (k : ℕ) → k < n → due t.clock (get_or t.parties k nobody) ≡ false
 
-module _ (μ : Meaning) (sound : Lawful μ) (kind : GroupKind) (n : ℕ) where
+module _ (rules : Rules) (sound : Lawful rules.meaning) where
+  abbrev μ : Meaning
+  μ = rules.meaning
+
+  abbrev kind : GroupKind
+  kind = rules.plan.kind
+
+  abbrev n : ℕ
+  n = rules.plan.n
+
   abbrev M : Terms
   M = terms μ kind
 
   law : LawfulTerms M kind
   law = lawful μ sound kind
 
-  abbrev All : Bool → Play → Type 0
+  abbrev All : Bool → State → Type 0
   All q s = Whole M kind q n s.table
 
-  whole_joins : (q : Bool) (i : ℕ) (s : Play) → (kind ≡ Closed → ⊥) → (the i s.table).own.standing ≡ Outside → All q s → All q (joins μ i s)
+  whole_joins : (q : Bool) (i : ℕ) (s : State) → (kind ≡ Closed → ⊥) → (the i s.table).own.standing ≡ Outside → All q s → All q (after_join (trip rules.meaning) i s)
   whole_joins q i s wide e w = one M kind law n q q s.table (i - 1) _ _ w (λ x k. k) (λ k. step.join M kind law q _ _ _ _ w.scene _ k _ wide e)
 
-  whole_leaves : (q : Bool) (i : ℕ) (s : Play) → (kind ≡ Closed → ⊥) → (the i s.table).own.standing ≡ Live In → All q s → All q (leaves i s)
+  whole_leaves : (q : Bool) (i : ℕ) (s : State) → (kind ≡ Closed → ⊥) → (the i s.table).own.standing ≡ Live In → All q s → All q (after_leave i s)
   whole_leaves q i s wide e w = one M kind law n q q s.table (i - 1) _ _ w (λ x k. k) (λ k. step.leave M kind law q _ _ _ _ w.scene _ k wide e)
 
   later_scene : (c : ℕ) (r : Root) (a l : ℕ) → Scene M c r a l → (r ≡ Running → c < a + l) → Scene M (c + 1) r a l
   later_scene c r a l s early = grind arith
 
-  whole_timed : (q : Bool) (s : Play) → Amid M kind q n s.table → All q (later (timed (patience μ kind) μ.tmin (trip μ) n s))
+  whole_timed : (q : Bool) (s : State) → Amid M kind q n s.table → All q (after_clock (after_timers (patience μ kind) μ.tmin (trip μ) n s))
   whole_timed q s w =
       let t = s.table in
       record {
@@ -129,15 +145,15 @@ module _ (μ : Meaning) (sound : Lawful μ) (kind : GroupKind) (n : ℕ) where
       let e = slice_get-get_or μ.waits p.note.misses 0 h in let f = sound.floor p.note.misses h in grind (arith, nat_tests)
 
   -- the party at k after the count
-  counted_at : (s : Play) (k : ℕ) → k < n → n ≤ length s.table.parties → get_or (counted n s).table.parties k nobody ≡ missed (get_or s.table.parties k nobody)
+  counted_at : (s : State) (k : ℕ) → k < n → n ≤ length s.table.parties → get_or (after_count n s).table.parties k nobody ≡ missed (get_or s.table.parties k nobody)
   counted_at s k h long =
       walks_each _ _ (λ p. p ≡ get_or s.table.parties k nobody) (λ p. p ≡ missed (get_or s.table.parties k nobody)) (λ _ _ p e. ap missed e)
       1 n 0 s.table.parties nobody k h long refl
 
-  module _ (q : Bool) (s : Play) (w : All q s) (up : s.table.root ≡ Running) (end : s.table.clock ≡ s.table.start + s.table.length)
+  module _ (q : Bool) (s : State) (w : All q s) (up : s.table.root ≡ Running) (end : s.table.clock ≡ s.table.start + s.table.length)
       (quiet : (k : ℕ) → k < n → due s.table.clock (get_or s.table.parties k nobody) ≡ false) where
     abbrev ps : List Party
-    ps = (counted n s).table.parties
+    ps = (after_count n s).table.parties
 
     ps_long : n ≤ length ps
     ps_long = walks_long _ _ 1 n 0 s.table.parties n w.long
@@ -149,7 +165,7 @@ module _ (μ : Meaning) (sound : Lawful μ) (kind : GroupKind) (n : ℕ) where
         (λ k h. subst (λ p. missed_all (length μ.waits) p ≡ false) (sym (counted_at s k h w.long))
         (step.trusted M kind law q _ _ _ _ w.scene _ (w.each k h) good end (quiet k h)))
 
-    stops : q ≡ false → Amid M kind q n (settled_as true μ n (counted n s)).table
+    stops : q ≡ false → Amid M kind q n (after_verdict_of true rules (after_count n s)).table
     stops bad = record {
       whole = record {
         scene = let x = w.scene in grind arith;
@@ -185,12 +201,12 @@ module _ (μ : Meaning) (sound : Lawful μ) (kind : GroupKind) (n : ℕ) where
       missed_roll : (p : Party) → p.note.roll ≡ On → (missed p).note.roll ≡ On
       missed_roll p e = grind arith
 
-      goes_on : Amid M kind q n (settled_as false μ n (counted n s)).table
+      goes_on : Amid M kind q n (after_verdict_of false rules (after_count n s)).table
       goes_on =
           let c = s.table.clock in
           let both : (k : ℕ) → k < n →
-          Kept M kind q c s.table.root c next (get_or (settled_as false μ n (counted n s)).table.parties k nobody)
-          × (due c (get_or (settled_as false μ n (counted n s)).table.parties k nobody) ≡ false) =
+          Kept M kind q c s.table.root c next (get_or (after_verdict_of false rules (after_count n s)).table.parties k nobody)
+          × (due c (get_or (after_verdict_of false rules (after_count n s)).table.parties k nobody) ≡ false) =
           λ k h. walks_each _ _ (λ p. p ≡ missed (get_or s.table.parties k nobody)) (λ p. Kept M kind q c s.table.root c next p × (due c p ≡ false))
           (λ j log p e. subst (λ x. Kept M kind q c s.table.root c next (sends (c + μ.tmin) (length log) x) × (due c (sends (c + μ.tmin) (length log) x) ≡ false)) (sym e) (
             subst (λ r. Kept M kind q c r c next (sends (c + μ.tmin) (length log) (missed (get_or s.table.parties k nobody)))) (sym up)
@@ -198,12 +214,12 @@ module _ (μ : Meaning) (sound : Lawful μ) (kind : GroupKind) (n : ℕ) where
                 (folds_falls (shorter μ.waits) shorter_falls 1 n μ.tmax ps) (λ e. next_wait k h (missed_roll (get_or s.table.parties k nobody) e)) (few k h)),
             step.sent_quiet M kind law q _ _ _ _ w.scene _ (w.each k h) (length log) (quiet k h),
           ))
-          1 n (counted n s).log ps nobody k h ps_long (counted_at s k h w.long) in
+          1 n (after_count n s).log ps nobody k h ps_long (counted_at s k h w.long) in
           record {
             whole = record {
               scene = let x = w.scene in let y = next_low in let z = folds_falls (shorter μ.waits) shorter_falls 1 n μ.tmax ps in grind arith;
               each = λ k h. (both k h).0;
-              long = walks_long _ _ 1 n (counted n s).log ps n ps_long;
+              long = walks_long _ _ 1 n (after_count n s).log ps n ps_long;
             };
             early = λ e. omega (arith, next_low, sound.low);
             quiet = λ k h. (both k h).1;
@@ -213,38 +229,38 @@ module _ (μ : Meaning) (sound : Lawful μ) (kind : GroupKind) (n : ℕ) where
     harmed bad true e = absurd (clash _ bad (none_missed_all e))
     harmed bad false e = e
 
-    settles : (b : Bool) → any (missed_all (length μ.waits)) n ps ≡ b → Amid M kind q n (settled_as b μ n (counted n s)).table
+    settles : (b : Bool) → any (missed_all (length μ.waits)) n ps ≡ b → Amid M kind q n (after_verdict_of b rules (after_count n s)).table
     settles true e = stops (harmed e q refl)
     settles false e = goes_on e
 
-  module _ (q : Bool) (s : Play) (w : All q s) (quiet : (k : ℕ) → k < n → due s.table.clock (get_or s.table.parties k nobody) ≡ false) where
+  module _ (q : Bool) (s : State) (w : All q s) (quiet : (k : ℕ) → k < n → due s.table.clock (get_or s.table.parties k nobody) ≡ false) where
     not_yet : (r : Root) (c a l : ℕ) → Scene M c r a l → (runs r && eqb c (a + l)) ≡ false → r ≡ Running → c < a + l
     not_yet r c a l x e up = grind (arith, nat_tests)
 
-    rounds : (b : Bool) → round_ends s.table ≡ b → Amid M kind q n (rounded_as b μ n s).table
+    rounds : (b : Bool) → round_ends s.table ≡ b → Amid M kind q n (after_round_if b rules s).table
     rounds true e =
         let both = ends_up s.table.root s.table.clock (s.table.start + s.table.length) e in
-        settles q s w both.0 both.1 quiet (any (missed_all (length μ.waits)) n (counted n s).table.parties) refl
+        settles q s w both.0 both.1 quiet (any (missed_all (length μ.waits)) n (after_count n s).table.parties) refl
     rounds false e = record { whole = w; early = not_yet _ _ _ _ w.scene e; quiet = quiet }
 
-  whole_ticks : (q : Bool) (s : Play) → All q s → any (due s.table.clock) n s.table.parties ≡ false → All q (later (timed (patience μ kind) μ.tmin (trip μ) n (rounded μ n s)))
+  whole_ticks : (q : Bool) (s : State) → All q s → any (due s.table.clock) n s.table.parties ≡ false → All q (after_tick rules s)
   whole_ticks q s w e =
-      whole_timed q (rounded μ n s) (rounds q s w (λ k h. any_false (due s.table.clock) 1 n s.table.parties nobody e k h w.long) (round_ends s.table) refl)
+      whole_timed q (after_round rules s) (rounds q s w (λ k h. any_false (due s.table.clock) 1 n s.table.parties nobody e k h w.long) (round_ends s.table) refl)
 
   -- runs
 
-  weaken : (q b : Bool) (s : Play) → All q s → All (q && b) s
+  weaken : (q b : Bool) (s : State) → All q s → All (q && b) s
   weaken true true s w = w
   weaken true false s w = record { scene = w.scene; each = λ k h. fades M kind law n true s.table w.scene _ (w.each k h); long = w.long }
   weaken false b s w = w
 
-  harm : (q : Bool) (s : Play) → All false s → All (q && false) s
+  harm : (q : Bool) (s : State) → All false s → All (q && false) s
   harm true s w = w
   harm false s w = w
 
-module _ (μ : Meaning) (sound : Lawful μ) (plan : Plan) (room : ℕ) where
-  abbrev Fine : Bool → Play → Type 0
-  Fine q s = All μ sound plan.kind plan.n q s
+module _ (rules : Rules) (sound : Lawful rules.meaning) where
+  abbrev Fine : Bool → State → Type 0
+  Fine q s = All rules sound q s
 
   asked_due : (a b : Bool) (x : ℕ) → asks a 10 (asks (not b) 11 x) ≡ 0 → b ≡ false
   asked_due a b x e = grind arith
@@ -264,84 +280,84 @@ module _ (μ : Meaning) (sound : Lawful μ) (plan : Plan) (room : ℕ) where
   inside : (x : Standing) → is_in x ≡ true → x ≡ Live In
   inside x e = grind arith
 
-  does : (q : Bool) (call : Call) (s : Play) → number plan room call s ≡ 0 → Fine q s → Fine (q && spares call 0) (done μ plan call s)
-  does q Tick s e w = weaken μ sound plan.kind plan.n q true (ticked μ plan s) (whole_ticks μ sound plan.kind plan.n q s w (asked_due _ _ _ e))
-  does q (Deliver i leg) s e w = weaken μ sound plan.kind plan.n q true (delivered i leg s) (delivers_as _ _ (law μ sound plan.kind plan.n) _ q _ i leg s refl w)
-  does q (Lose i leg) s e w = harm μ sound plan.kind plan.n q (loses i leg s) (loses_as _ _ (law μ sound plan.kind plan.n) _ q (on_leg leg (the i s.table)) i leg s w)
-  does q (Crash i) s e w = harm μ sound plan.kind plan.n q (crashed i s) (crashes_any _ _ (law μ sound plan.kind plan.n) _ q i s w)
+  does : (q : Bool) (call : Call) (s : State) → number rules call s ≡ 0 → Fine q s → Fine (q && spares call 0) (effect rules call s)
+  does q Tick s e w = weaken rules sound q true (after_tick rules s) (whole_ticks rules sound q s w (asked_due _ _ _ e))
+  does q (Deliver i leg) s e w = weaken rules sound q true (after_delivery i leg s) (delivers_as _ _ (law rules sound) _ q _ i leg s refl w)
+  does q (Lose i leg) s e w = harm rules sound q (after_loss i leg s) (loses_as _ _ (law rules sound) _ q (on_leg leg (the i s.table)) i leg s w)
+  does q (Crash i) s e w = harm rules sound q (after_crash i s) (crashes_any _ _ (law rules sound) _ q i s w)
   does q (Join i) s e w =
       let a = asked_wide _ _ _ _ e in
-      weaken μ sound plan.kind plan.n q true (joins μ i s) (whole_joins μ sound plan.kind plan.n q i s (wide_join _ a.0) (outside _ a.1) w)
+      weaken rules sound q true (after_join (trip rules.meaning) i s) (whole_joins rules sound q i s (wide_join _ a.0) (outside _ a.1) w)
   does q (Leave i) s e w =
       let a = asked_wide _ _ _ _ e in
-      weaken μ sound plan.kind plan.n q true (leaves i s) (whole_leaves μ sound plan.kind plan.n q i s (wide_leave _ a.0) (inside _ a.1) w)
+      weaken rules sound q true (after_leave i s) (whole_leaves rules sound q i s (wide_leave _ a.0) (inside _ a.1) w)
 
-  performs : (q : Bool) (call : Call) (s : Play) (k : ℕ) → number plan room call s ≡ k → Fine q s → Fine (q && spares call k) (unless k s (done μ plan call s))
+  performs : (q : Bool) (call : Call) (s : State) (k : ℕ) → number rules call s ≡ k → Fine q s → Fine (q && spares call k) (unless k s (effect rules call s))
   performs q call s zero e w = does q call s e w
-  performs q call s (suc k) e w = weaken μ sound plan.kind plan.n q (spares call (suc k)) s w
+  performs q call s (suc k) e w = weaken rules sound q (spares call (suc k)) s w
 
-  regroup : (q b c : Bool) (s : Play) → Fine ((q && b) && c) s → Fine (q && (b && c)) s
+  regroup : (q b c : Bool) (s : State) → Fine ((q && b) && c) s → Fine (q && (b && c)) s
   regroup true b c s w = w
   regroup false b c s w = w
 
-  pub plays : (q : Bool) (calls : List Call) (s : Play) → Fine q s → Fine (q && unharmed calls (answered μ plan room calls s)) (played μ plan room calls s)
-  plays q [] s w = weaken μ sound plan.kind plan.n q true s w
+  pub plays : (q : Bool) (calls : List Call) (s : State) → Fine q s → Fine (q && unharmed calls (numbers rules calls s)) (state_after rules calls s)
+  plays q [] s w = weaken rules sound q true s w
   plays q (call ∷ calls) s w =
-      regroup q (spares call (number plan room call s)) _ (played μ plan room calls (perform μ plan room call s))
-      (plays (q && spares call (number plan room call s)) calls (perform μ plan room call s) (performs q call s (number plan room call s) refl w))
+      regroup q (spares call (number rules call s)) _ (state_after rules calls (perform rules call s))
+      (plays (q && spares call (number rules call s)) calls (perform rules call s) (performs q call s (number rules call s) refl w))
 
-  pub opens : (q : Bool) → Fine q (opened μ plan)
+  pub opens : (q : Bool) → Fine q (opening rules)
   opens q = record {
     scene = let a = sound.low in let b = sound.ordered in omega arith;
-    each = λ k h. subst (λ p. Kept (terms μ plan.kind) plan.kind q 0 Running 0 μ.tmax p)
-        (sym (get_or-replicate 32 k (fresh plan.kind) nobody (omega (arith, plan.few))))
-        (step.open_kept (terms μ plan.kind) plan.kind (law μ sound plan.kind plan.n) q);
-    long = omega (arith, plan.few);
+    each = λ k h. subst (λ p. Kept (terms rules.meaning rules.plan.kind) rules.plan.kind q 0 Running 0 rules.meaning.tmax p)
+        (sym (get_or-replicate 32 k (fresh rules.plan.kind) nobody (omega (arith, rules.plan.few))))
+        (step.open_kept (terms rules.meaning rules.plan.kind) rules.plan.kind (law rules sound) q);
+    long = omega (arith, rules.plan.few);
   }
 
   -- the legs that a call puts beats on are free
 
-  frees : (q : Bool) (call : Call) (s : Play) → number plan room call s ≡ 0 → Fine q s → FreeFor μ plan call s
+  frees : (q : Bool) (call : Call) (s : State) → number rules call s ≡ 0 → Fine q s → FreeFor rules call s
   frees q Tick s e w = λ i lo hi.
       let k = w.each (i - 1) (omega arith) in
-      let quiet = any_false (due s.table.clock) 1 plan.n s.table.parties nobody (asked_due _ _ _ e) (i - 1) (omega arith) w.long in
-      let L = law μ sound plan.kind plan.n in (
+      let quiet = any_false (due s.table.clock) 1 rules.plan.n s.table.parties nobody (asked_due _ _ _ e) (i - 1) (omega arith) w.long in
+      let L = law rules sound in (
         (λ ends on. step.free_out _ _ L q _ _ _ _ w.scene _ k (ends_up _ _ _ ends).1 quiet),
         (λ joins lo whole. step.free_entry _ _ L q _ _ _ _ w.scene _ k joins quiet lo whole),
       )
   frees q (Deliver i leg) s e w = λ first.
-      let a = asked_beat plan.n i (on_leg leg (the i s.table)) _ e in
+      let a = asked_beat rules.plan.n i (on_leg leg (the i s.table)) _ e in
       go a.0 a.1 (on_leg leg (the i s.table)) refl a.2 first
     where
-      go : 1 ≤ i → i ≤ plan.n → (o : Option Beat) → on_leg leg (the i s.table) ≡ o → is_there o ≡ true → leg ≡ 1 → (the i s.table).legs.reply ≡ None
+      go : 1 ≤ i → i ≤ rules.plan.n → (o : Option Beat) → on_leg leg (the i s.table) ≡ o → is_some o ≡ true → leg ≡ 1 → (the i s.table).legs.reply ≡ None
       go lo hi None f there first = absurd (clash _ there refl)
       go lo hi (Some b) f there first =
-          step.free_reply _ _ (law μ sound plan.kind plan.n) q _ _ _ _ w.scene _ (w.each (i - 1) (omega arith)) b
+          step.free_reply _ _ (law rules sound) q _ _ _ _ w.scene _ (w.each (i - 1) (omega arith)) b
           (subst (λ x. on_leg x (the i s.table) ≡ Some b) first f)
   frees q (Lose i leg) s e w = tt
   frees q (Crash i) s e w = tt
   frees q (Join i) s e w =
-      let a = asked_party plan.n i _ e in
-      let b = asked_wide (is_party plan.n i) (may_join plan.kind) (is_outside (the i s.table).own.standing) (log_asks 2 room s) e in
-      step.free_entry_outside _ _ (law μ sound plan.kind plan.n) q _ _ _ _ w.scene _ (w.each (i - 1) (omega arith)) (outside _ b.1)
+      let a = asked_party rules.plan.n i _ e in
+      let b = asked_wide (is_party rules.plan.n i) (may_join rules.plan.kind) (is_outside (the i s.table).own.standing) (log_asks 2 rules.room s) e in
+      step.free_entry_outside _ _ (law rules sound) q _ _ _ _ w.scene _ (w.each (i - 1) (omega arith)) (outside _ b.1)
   frees q (Leave i) s e w = tt
 
 pub free_legs : BeatsTakeFreeLegs
-free_legs μ sound plan room calls call e =
-    frees μ sound plan room _ call (played μ plan room calls (opened μ plan)) e (plays μ sound plan room true calls (opened μ plan) (opens μ sound plan room true))
+free_legs rules sound calls call e =
+    frees rules sound _ call (state_after rules calls (opening rules)) e (plays rules sound true calls (opening rules) (opens rules sound true))
 
 -- no beat of the root is on its way to a struck party
 pub no_beat_of_the_root :
-    (μ : Meaning) → Lawful μ → (plan : Plan) (room : ℕ) (calls : List Call) (i : ℕ) → 1 ≤ i → i ≤ plan.n →
-    let s = played μ plan room calls (opened μ plan) in (the i s.table).note.roll ≡ Struck → (the i s.table).legs.out ≡ None
-no_beat_of_the_root μ sound plan room calls i lo hi e =
-    let w = plays μ sound plan room true calls (opened μ plan) (opens μ sound plan room true) in
-    step.no_beat_to_struck _ _ (law μ sound plan.kind plan.n) _ _ _ _ _ w.scene _ (w.each (i - 1) (omega arith)) e
+    (rules : Rules) → Lawful rules.meaning → (calls : List Call) (i : ℕ) → 1 ≤ i → i ≤ rules.plan.n →
+    let s = state_after rules calls (opening rules) in (the i s.table).note.roll ≡ Struck → (the i s.table).legs.out ≡ None
+no_beat_of_the_root rules sound calls i lo hi e =
+    let w = plays rules sound true calls (opening rules) (opens rules sound true) in
+    step.no_beat_to_struck _ _ (law rules sound) _ _ _ _ _ w.scene _ (w.each (i - 1) (omega arith)) e
 
 -- a beat on a leg may still arrive, and not for more than a trip
 pub last_ticks :
-    (μ : Meaning) → Lawful μ → (plan : Plan) (room : ℕ) (calls : List Call) (i leg : ℕ) (b : Beat) → 1 ≤ i → i ≤ plan.n →
-    let s = played μ plan room calls (opened μ plan) in on_leg leg (the i s.table) ≡ Some b → (s.table.clock ≤ b.last) × (b.last ≤ s.table.clock + trip μ)
-last_ticks μ sound plan room calls i leg b lo hi e =
-    let w = plays μ sound plan room true calls (opened μ plan) (opens μ sound plan room true) in
-    step.last_ticks _ _ (law μ sound plan.kind plan.n) _ _ _ _ _ w.scene _ (w.each (i - 1) (omega arith)) leg b e
+    (rules : Rules) → Lawful rules.meaning → (calls : List Call) (i leg : ℕ) (b : Beat) → 1 ≤ i → i ≤ rules.plan.n →
+    let s = state_after rules calls (opening rules) in on_leg leg (the i s.table) ≡ Some b → (s.table.clock ≤ b.last) × (b.last ≤ s.table.clock + trip rules.meaning)
+last_ticks rules sound calls i leg b lo hi e =
+    let w = plays rules sound true calls (opening rules) (opens rules sound true) in
+    step.last_ticks _ _ (law rules sound) _ _ _ _ _ w.scene _ (w.each (i - 1) (omega arith)) leg b e

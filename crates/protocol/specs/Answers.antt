@@ -15,6 +15,6 @@ refusal_number NoSlot = 12
 refusal_number LogDiffers = 13
 
 -- the number that an answer tells, 0 for a call that was not refused
-abbrev pub told : {A : Type 0} → Result A Refusal → ℕ
-told (Ok x) = 0
-told (Err e) = refusal_number e
+abbrev pub number_told : {A : Type 0} → Result A Refusal → ℕ
+number_told (Ok x) = 0
+number_told (Err e) = refusal_number e

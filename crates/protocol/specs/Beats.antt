@@ -1,19 +1,20 @@
 -- The beats of a run as its log shows them: each is sent once, and arrives or is lost at most once.
-use Rattle.std.specs.Prelude.{◌≡◌, ℕ, suc, ◌-◌, ◌%◌, ◌<◌, ◌≤◌, Bool, true, false, cond, ◌||◌, List, [], ◌∷◌, ◌++◌, length, get_or, Some, None, ◌≢◌, slice_index_or}
+use Rattle.std.specs.Prelude.{◌≡◌, ℕ, suc, ◌<◌, ◌≤◌, Bool, true, false, cond, ◌||◌, List, [], ◌∷◌, ◌++◌, length, get_or, Some, ◌≢◌, slice_index_or}
 use Rattle.protocol.specs.declared.party.Beat.{Beat}
-use Rattle.protocol.specs.declared.party.Standing.TheVariants.{Live}
-use Rattle.protocol.specs.declared.party.Stage.TheVariants.{Joining as Joins}
-use Rattle.protocol.specs.declared.party.Roll.TheVariants.{On}
 use Rattle.protocol.specs.declared.happening.HappeningKind.{HappeningKind}
 use Rattle.protocol.specs.declared.happening.HappeningKind.TheVariants.{Sent, Arrived, Lost, Enrolled, Struck, Crashed, Stopped, Left, Joining, Leaving}
 use Rattle.protocol.specs.declared.happening.Happening.{Happening}
-use Rattle.protocol.specs.declared.plan.Plan.{Plan}
 use Rattle.protocol.specs.declared.call.Call.{Call}
 use Rattle.protocol.specs.declared.call.Call.TheVariants.{Tick, Deliver, Lose, Crash, Join, Leave}
-use Rattle.pace.specs.Meaning.{Meaning, Lawful}
+use Rattle.protocol.specs.calls.Tick.{LegsFreeAtTick}
+use Rattle.protocol.specs.calls.Deliver.{ReplyLegFree}
+use Rattle.protocol.specs.calls.Join.{EntryLegFree}
+use Rattle.pace.specs.Meaning.{Lawful}
 use Rattle.protocol.specs.Party.{on_leg}
-use Rattle.protocol.specs.Group.{Play, the, happens, sender, opened, round_ends}
-use Rattle.protocol.specs.Runs.{number, perform, played}
+use Rattle.protocol.specs.Rules.{Rules}
+use Rattle.protocol.specs.State.{State, the, happening, opening}
+use Rattle.protocol.specs.calls.Lose.{sender}
+use Rattle.protocol.specs.Runs.{number, perform, state_after}
 
 abbrev pub is_arrival : HappeningKind → Bool
 is_arrival Sent = false
@@ -45,7 +46,7 @@ settles w = is_arrival w || is_loss w
 
 -- stands for a record where there is none
 abbrev pub nothing : Happening
-nothing = happens 0 0 Lost 0
+nothing = happening 0 0 Lost 0
 
 -- the record at place k of the log
 abbrev pub happening_at : List Happening → ℕ → Happening
@@ -98,9 +99,9 @@ edges k [] = []
 edges k (h ∷ log) = cond (is_arrival h.kind) (edge h.link k ∷ edges (suc k) log) (edges (suc k) log)
 
 -- each beat on a leg and each arrival goes back to a sending by the right end, each loss to one by its owner
-pub record BeatsAreLogged (plan : Plan) (s : Play) : Type 0 where
-  pub on_legs : (i leg : ℕ) (b : Beat) → 1 ≤ i → i ≤ plan.n → on_leg leg (the i s.table) ≡ Some b → SentBy s.log (sender leg i) b.place
-  pub arrivals : Linked plan.n s.log
+pub record BeatsAreLogged (rules : Rules) (s : State) : Type 0 where
+  pub on_legs : (i leg : ℕ) (b : Beat) → 1 ≤ i → i ≤ rules.plan.n → on_leg leg (the i s.table) ≡ Some b → SentBy s.log (sender leg i) b.place
+  pub arrivals : Linked rules.plan.n s.log
   pub losses : LossesLinked s.log
 
 -- no two arrivals or losses link to the same place
@@ -117,50 +118,46 @@ abbrev pub SourcesDiffer : List Edge → Type 0
 SourcesDiffer es = (j k : ℕ) → j < k → k < length es → (get_or es j (edge 0 0)).source ≢ (get_or es k (edge 0 0)).source
 
 -- no sending arrives or is lost twice, none whose beat is on a leg has arrived or been lost, and beats on different legs have different sendings
-pub record SendingsSettleOnce (plan : Plan) (s : Play) : Type 0 where
+pub record SendingsSettleOnce (rules : Rules) (s : State) : Type 0 where
   pub once : SettledOnce s.log
   pub sources_differ : SourcesDiffer (edges 0 s.log)
-  pub under_way : (i leg : ℕ) (b : Beat) → 1 ≤ i → i ≤ plan.n → on_leg leg (the i s.table) ≡ Some b → Unsettled s.log b.place
-  pub apart : (i leg : ℕ) (b : Beat) (i' leg' : ℕ) (b' : Beat) → 1 ≤ i → i ≤ plan.n → 1 ≤ i' → i' ≤ plan.n →
+  pub under_way : (i leg : ℕ) (b : Beat) → 1 ≤ i → i ≤ rules.plan.n → on_leg leg (the i s.table) ≡ Some b → Unsettled s.log b.place
+  pub apart : (i leg : ℕ) (b : Beat) (i' leg' : ℕ) (b' : Beat) → 1 ≤ i → i ≤ rules.plan.n → 1 ≤ i' → i' ≤ rules.plan.n →
       on_leg leg (the i s.table) ≡ Some b → on_leg leg' (the i' s.table) ≡ Some b' → b.place ≡ b'.place → (i ≡ i') × (leg ≡ leg')
 
 -- in every run no sending is the source of two
 abbrev pub RunsSettleEachSendingOnce : Type 0
 RunsSettleEachSendingOnce =
-    (m : Meaning) → Lawful m → (plan : Plan) (room : ℕ) (calls : List Call) → SendingsSettleOnce plan (played m plan room calls (opened m plan))
+    (rules : Rules) → Lawful rules.meaning → (calls : List Call) → SendingsSettleOnce rules (state_after rules calls (opening rules))
 
 -- the call among these, made from s₀ on, that put the beat b on a leg of party i: it wrote the record of its sending
-pub record PutBy (m : Meaning) (plan : Plan) (room : ℕ) (s₀ : Play) (calls : List Call) (i leg : ℕ) (b : Beat) : Type 0 where
+pub record PutBy (rules : Rules) (s₀ : State) (calls : List Call) (i leg : ℕ) (b : Beat) : Type 0 where
   pub before : List Call
   pub call : Call
   pub after : List Call
   pub among : calls ≡ before ++ (call ∷ after)
   -- the record of the sending is not one of those before the call, and is one of those after it
-  pub not_yet : length (played m plan room before s₀).log ≤ b.place
-  pub written : SentBy (perform m plan room call (played m plan room before s₀)).log (sender leg i) b.place
-  pub put : on_leg leg (the i (perform m plan room call (played m plan room before s₀)).table) ≡ Some b
+  pub not_yet : length (state_after rules before s₀).log ≤ b.place
+  pub written : SentBy (perform rules call (state_after rules before s₀)).log (sender leg i) b.place
+  pub put : on_leg leg (the i (perform rules call (state_after rules before s₀)).table) ≡ Some b
 
 -- in every run, each beat on a leg was put there by the call that wrote the record of its sending
 abbrev pub RunsPutEachBeatWithItsSending : Type 0
 RunsPutEachBeatWithItsSending =
-    (m : Meaning) → Lawful m → (plan : Plan) (room : ℕ) (calls : List Call) (i leg : ℕ) (b : Beat) → 1 ≤ i → i ≤ plan.n →
-    on_leg leg (the i (played m plan room calls (opened m plan)).table) ≡ Some b → PutBy m plan room (opened m plan) calls i leg b
+    (rules : Rules) → Lawful rules.meaning → (calls : List Call) (i leg : ℕ) (b : Beat) → 1 ≤ i → i ≤ rules.plan.n →
+    on_leg leg (the i (state_after rules calls (opening rules)).table) ≡ Some b → PutBy rules (opening rules) calls i leg b
 
 -- the legs on which the call puts a beat are free
-abbrev pub FreeFor : Meaning → Plan → Call → Play → Type 0
-FreeFor m plan Tick s =
-    (i : ℕ) → 1 ≤ i → i ≤ plan.n →
-    let t = s.table in let p = the i t in
-    (round_ends t ≡ true → p.note.roll ≡ On → p.legs.out ≡ None)
-    × (p.own.standing ≡ Live Joins → p.own.since < t.clock → (t.clock - p.own.since) % m.tmin ≡ 0 → p.legs.entry ≡ None)
-FreeFor m plan (Deliver i leg) s = leg ≡ 1 → (the i s.table).legs.reply ≡ None
-FreeFor m plan (Lose i leg) s = Unit {0}
-FreeFor m plan (Crash i) s = Unit {0}
-FreeFor m plan (Join i) s = (the i s.table).legs.entry ≡ None
-FreeFor m plan (Leave i) s = Unit {0}
+abbrev pub FreeFor : Rules → Call → State → Type 0
+FreeFor rules Tick s = LegsFreeAtTick rules s
+FreeFor rules (Deliver i leg) s = ReplyLegFree i leg s
+FreeFor rules (Lose i leg) s = Unit {0}
+FreeFor rules (Crash i) s = Unit {0}
+FreeFor rules (Join i) s = EntryLegFree i s
+FreeFor rules (Leave i) s = Unit {0}
 
 -- no call of a run puts a beat on a leg that holds one
 abbrev pub BeatsTakeFreeLegs : Type 0
 BeatsTakeFreeLegs =
-    (m : Meaning) → Lawful m → (plan : Plan) (room : ℕ) (calls : List Call) (call : Call) →
-    number plan room call (played m plan room calls (opened m plan)) ≡ 0 → FreeFor m plan call (played m plan room calls (opened m plan))
+    (rules : Rules) → Lawful rules.meaning → (calls : List Call) (call : Call) →
+    number rules call (state_after rules calls (opening rules)) ≡ 0 → FreeFor rules call (state_after rules calls (opening rules))

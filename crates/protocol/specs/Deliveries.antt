@@ -1,16 +1,17 @@
 -- The deliveries of a run, told from its steps, and what its log shows of each.
 use Rattle.std.specs.Prelude.{◌≡◌, ℕ, ◌<◌, ◌≤◌, Bool, cond, List, [], ◌∷◌, ◌++◌, map, length, get_or, Some, ◌==◌, is_ok, IsOk}
-use Rattle.pace.specs.Meaning.{Meaning, Lawful}
+use Rattle.pace.specs.Meaning.{Lawful}
 use Rattle.protocol.specs.declared.party.Beat.{Beat}
 use Rattle.protocol.specs.declared.happening.HappeningKind.TheVariants.{Arrived}
 use Rattle.protocol.specs.declared.happening.Happening.{Happening}
-use Rattle.protocol.specs.declared.plan.Plan.{Plan}
 use Rattle.protocol.specs.declared.call.Call.{Call}
 use Rattle.protocol.specs.declared.call.Call.TheVariants.{Tick, Deliver, Lose, Crash, Join, Leave}
 use Rattle.protocol.specs.declared.call.Step.{Step}
 use Rattle.protocol.specs.Party.{on_leg}
-use Rattle.protocol.specs.Group.{Play, the, sender, opened}
-use Rattle.protocol.specs.Runs.{perform, reached}
+use Rattle.protocol.specs.Rules.{Rules}
+use Rattle.protocol.specs.State.{State, the, opening}
+use Rattle.protocol.specs.calls.Lose.{sender}
+use Rattle.protocol.specs.Runs.{perform, run_state}
 use Rattle.protocol.specs.Rehearsals.{Rehearsed, call_of}
 use Rattle.protocol.specs.Beats.{happening_at, SentBy, Edge, edge, edges, PutBy, BeatsAreLogged}
 
@@ -45,38 +46,38 @@ pub record ArrivedBy (log : List Happening) (c o k : ℕ) : Type 0 where
   pub owner : (happening_at log k).owner ≡ o
 
 -- e is the edge, in that log, of the delivery from a leg of party i that was made after those calls
-pub record IsEdgeOf (m : Meaning) (plan : Plan) (room : ℕ) (calls : List Call) (i leg : ℕ)
+pub record IsEdgeOf (rules : Rules) (calls : List Call) (i leg : ℕ)
     (log : List Happening) (e : Edge) : Type 0 where
-  pub of_a_party : (1 ≤ i) × (i ≤ plan.n)
+  pub of_a_party : (1 ≤ i) × (i ≤ rules.plan.n)
   pub of_a_leg : (1 ≤ leg) × (leg ≤ 3)
   -- its target is an arrival at the clock of that call, by who receives on the leg
-  pub arrival : ArrivedBy log (reached m plan room calls).table.clock (receiver leg i) e.target
+  pub arrival : ArrivedBy log (run_state rules calls).table.clock (receiver leg i) e.target
   -- which that very call wrote
-  pub not_yet : length (reached m plan room calls).log ≤ e.target
+  pub not_yet : length (run_state rules calls).log ≤ e.target
   pub written :
-      e.target < length (perform m plan room (Deliver i leg) (reached m plan room calls)).log
+      e.target < length (perform rules (Deliver i leg) (run_state rules calls)).log
   -- its source is a sending by who sends on the leg
   pub sending : SentBy log (sender leg i) e.source
   -- of the beat that stood on the leg, put there by the call that wrote that sending
   pub beat : Beat
-  pub stood : on_leg leg (the i (reached m plan room calls).table) ≡ Some beat
+  pub stood : on_leg leg (the i (run_state rules calls).table) ≡ Some beat
   pub sent_there : beat.place ≡ e.source
-  pub put : PutBy m plan room (opened m plan) calls i leg beat
+  pub put : PutBy rules (opening rules) calls i leg beat
 
 -- the edges es are the granted deliveries of those steps, in their order
-pub record EdgesAreTheDeliveries (m : Meaning) (plan : Plan) (room : ℕ) (steps : List Step)
+pub record EdgesAreTheDeliveries (rules : Rules) (steps : List Step)
     (log : List Happening) (es : List Edge) : Type 0 where
   pub as_many : length es ≡ length (granted_deliveries steps)
   -- the edge of each stands behind as many as were granted before it
   pub each :
       (before after : List Step) (x : Step) (i leg : ℕ) →
       steps ≡ before ++ (x ∷ after) → x.call ≡ Deliver i leg → IsOk x.answer →
-      IsEdgeOf m plan room (map call_of before) i leg log
+      IsEdgeOf rules (map call_of before) i leg log
       (get_or es (length (granted_deliveries before)) (edge 0 0))
 
 -- in every run the beats are logged, and the edges of the log are the granted deliveries
 abbrev pub RunsShowTheirBeats : Type 0
 RunsShowTheirBeats =
-    (m : Meaning) → Lawful m → (plan : Plan) (room : ℕ) (steps : List Step) (s : Play) →
-    Rehearsed m plan room (opened m plan) steps s →
-    BeatsAreLogged plan s × EdgesAreTheDeliveries m plan room steps s.log (edges 0 s.log)
+    (rules : Rules) → Lawful rules.meaning → (steps : List Step) (s : State) →
+    Rehearsed rules (opening rules) steps s →
+    BeatsAreLogged rules s × EdgesAreTheDeliveries rules steps s.log (edges 0 s.log)

@@ -2,7 +2,7 @@
 -- In what follows c is the clock, r the root, a and l the start and the length of the round, h the tick when the party last heard.
 use Rattle.std.specs.Prelude.{◌≡◌, ℕ, suc, ◌+◌, ◌-◌, ◌%◌, ◌<◌, ◌≤◌, Bool, true, false, length, drop, Some, None, sum, Option, slice_index, slice_index_or}
 use Rattle.pace.specs.Meaning.{Meaning}
-use Rattle.protocol.specs.Patience.{patience}
+use Rattle.protocol.specs.Rules.{patience}
 use Rattle.protocol.specs.Party.{nobody}
 use Rattle.protocol.specs.declared.table.Table.{Table}
 use Rattle.protocol.specs.declared.party.Party.{Party}

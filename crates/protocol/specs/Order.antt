@@ -2,11 +2,12 @@
 use Rattle.std.specs.Prelude.{◌≡◌, ℕ, Bool, true, ◌<◌, ◌≤◌, ◌↔◌, List, length, ◌≢◌}
 use Rattle.std.specs.List.Sorted.{IsNonDecreasingBy}
 use Rattle.protocol.specs.declared.happening.Happening.{Happening}
-use Rattle.protocol.specs.declared.plan.Plan.{Plan}
 use Rattle.protocol.specs.declared.call.Call.{Call}
-use Rattle.pace.specs.Meaning.{Meaning, Lawful}
-use Rattle.protocol.specs.Group.{Play, opened}
-use Rattle.protocol.specs.Runs.{tick_of, number, played}
+use Rattle.pace.specs.Meaning.{Lawful}
+use Rattle.protocol.specs.Rules.{Rules}
+use Rattle.protocol.specs.State.{State, opening}
+use Rattle.protocol.specs.Questions.{tick_of}
+use Rattle.protocol.specs.Runs.{number, state_after}
 use Rattle.protocol.specs.Beats.{happening_at}
 
 -- the ticks of the log never fall, and no record is later than the clock
@@ -19,23 +20,23 @@ abbrev pub OwnedUpTo : ℕ → List Happening → Type 0
 OwnedUpTo n log = (k : ℕ) → k < length log → (happening_at log k).owner ≤ n
 
 -- the log has as many records as the group wrote, and none of them is later than the clock
-pub record OwnLog (s : Play) : Type 0 where
+pub record OwnLog (s : State) : Type 0 where
   pub counted : length s.log ≡ s.table.logged
   pub none_later : (k : ℕ) → k < length s.log → (happening_at s.log k).tick ≤ s.table.clock
 
 -- the answer to whether the log is the group's own, of every log whose ticks never fall
-abbrev pub TellsOwnLog : Bool → Play → Type 0
+abbrev pub TellsOwnLog : Bool → State → Type 0
 TellsOwnLog answer s = IsNonDecreasingBy tick_of s.log → (answer ≡ true) ↔ OwnLog s
 
 -- the log is in order, each record is of the root or a party of the plan, the group has counted them,
 -- and so no call is refused because the log is another's
-pub record LogInOrder (plan : Plan) (s : Play) : Type 0 where
+pub record LogInOrder (rules : Rules) (s : State) : Type 0 where
   pub in_order : InOrder s.table.clock s.log
-  pub owned : OwnedUpTo plan.n s.log
+  pub owned : OwnedUpTo rules.plan.n s.log
   pub counted : s.table.logged ≡ length s.log
-  pub never_another : (room : ℕ) (call : Call) → number plan room call s ≢ 13
+  pub never_another : (room : ℕ) (call : Call) → number (record rules { room = room }) call s ≢ 13
 
 -- every run keeps its log in order
 abbrev pub RunsKeepTheirLogInOrder : Type 0
 RunsKeepTheirLogInOrder =
-    (m : Meaning) → Lawful m → (plan : Plan) (room : ℕ) (calls : List Call) → LogInOrder plan (played m plan room calls (opened m plan))
+    (rules : Rules) → Lawful rules.meaning → (calls : List Call) → LogInOrder rules (state_after rules calls (opening rules))

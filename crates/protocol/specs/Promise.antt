@@ -1,11 +1,10 @@
 -- The promise of a run: what holds of a group and its log after any calls, refused ones too, from the opening on.
-use Rattle.std.specs.Prelude.{◌≡◌, ℕ, true, List, ◌∷◌, ◌++◌, map}
-use Rattle.pace.specs.Meaning.{Meaning}
-use Rattle.protocol.specs.declared.plan.Plan.{Plan}
+use Rattle.std.specs.Prelude.{◌≡◌, true, List, ◌∷◌, ◌++◌, map}
 use Rattle.protocol.specs.declared.call.Call.{Call}
 use Rattle.protocol.specs.declared.call.Step.{Step}
-use Rattle.protocol.specs.Group.{Play, opened}
-use Rattle.protocol.specs.Runs.{number, played, unharmed}
+use Rattle.protocol.specs.Rules.{Rules}
+use Rattle.protocol.specs.State.{State, opening}
+use Rattle.protocol.specs.Runs.{number, state_after, unharmed}
 use Rattle.protocol.specs.Laws.{RootFollows, PartiesFollow, StopsForCause, NobodyStopped}
 use Rattle.protocol.specs.Beats.{BeatsAreLogged, SendingsSettleOnce, FreeFor, edges}
 use Rattle.protocol.specs.Order.{LogInOrder}
@@ -21,43 +20,43 @@ abbrev pub AtEachCall : List Call → (List Call → Call → Type 0) → Type 0
 AtEachCall calls P = (before after : List Call) (call : Call) → calls ≡ before ++ (call ∷ after) → P before call
 
 -- the legs on which the call puts a beat are free, where it is not refused
-abbrev pub SendsOnFreeLegs : Meaning → Plan → ℕ → List Call → Call → Type 0
-SendsOnFreeLegs m plan room before call =
-    let s = played m plan room before (opened m plan) in number plan room call s ≡ 0 → FreeFor m plan call s
+abbrev pub SendsOnFreeLegs : Rules → List Call → Call → Type 0
+SendsOnFreeLegs rules before call =
+    let s = state_after rules before (opening rules) in number rules call s ≡ 0 → FreeFor rules call s
 
 -- of a group opened new from a plan and a pace of that meaning, over so many slots, after the steps
-pub record KeepsTheRules (m : Meaning) (plan : Plan) (room : ℕ) (steps : List Step) (s : Play) : Type 0 where
+pub record KeepsTheRules (rules : Rules) (steps : List Step) (s : State) : Type 0 where
   -- each call did and answered what the rules say
-  pub by_the_rules : Rehearsed m plan room (opened m plan) steps s
+  pub by_the_rules : Rehearsed rules (opening rules) steps s
   -- the clock tells how many ticks were granted
   pub clock_counts_the_granted_ticks : s.table.clock ≡ granted_ticks steps
   -- a party on the roll ended at tick c and the clock is past c + D: the root has ended
-  pub root_ends_within_D_of_a_party_on_the_roll : RootFollows m plan s
+  pub root_ends_within_D_of_a_party_on_the_roll : RootFollows rules s
   -- the root ended at tick c and the clock is past c + D + trip: each party on the roll has ended
-  pub parties_on_the_roll_end_within_D_and_a_trip_of_the_root : PartiesFollow m plan s
+  pub parties_on_the_roll_end_within_D_and_a_trip_of_the_root : PartiesFollow rules s
   -- a party stopped that was in just before: the root has ended, and no later than that party
-  pub party_that_was_in_stops_no_earlier_than_the_root : StopsForCause plan s
+  pub party_that_was_in_stops_no_earlier_than_the_root : StopsForCause rules s
   -- each loss and crash was refused: nobody has stopped
-  pub nobody_stops_unharmed : unharmed (map call_of steps) (map answer_of steps) ≡ true → NobodyStopped plan s
+  pub nobody_stops_unharmed : unharmed (map call_of steps) (map answer_of steps) ≡ true → NobodyStopped rules s
   -- each beat on a leg, each arrival and each loss goes back to its sending
-  pub beats_go_back_to_their_sendings : BeatsAreLogged plan s
+  pub beats_go_back_to_their_sendings : BeatsAreLogged rules s
   -- no sending is the source of two: each arrives or is lost once at most
-  pub no_sending_settles_twice : SendingsSettleOnce plan s
+  pub no_sending_settles_twice : SendingsSettleOnce rules s
   -- no beat vanishes: each sending has arrived, is lost or is under way
-  pub no_beat_vanishes : NoBeatVanishes plan s
+  pub no_beat_vanishes : NoBeatVanishes rules s
   -- a beat is under way for at most a trip
-  pub beats_come_in_time : BeatsComeInTime m plan s
+  pub beats_come_in_time : BeatsComeInTime rules s
   -- no call puts a beat on a leg that holds one
-  pub sends_fall_on_free_legs : AtEachCall (map call_of steps) (SendsOnFreeLegs m plan room)
+  pub sends_fall_on_free_legs : AtEachCall (map call_of steps) (SendsOnFreeLegs rules)
   -- from its striking on, a party is struck after each call, and no beat goes out to it
-  pub struck_is_for_good : StruckForGood m plan room (map call_of steps)
+  pub struck_is_for_good : StruckForGood rules (map call_of steps)
   -- the ticks of the log never fall, none is later than the clock, each record is of the root or a
   -- party of the plan, and the group never takes its log for another's
-  pub log_in_order : LogInOrder plan s
+  pub log_in_order : LogInOrder rules s
   -- the log tells where each party stands, when it last heard and whether it is on the roll;
   -- and how the root is
-  pub log_tells_the_group : TellsTheGroup plan s
+  pub log_tells_the_group : TellsTheGroup rules s
   -- the edges of the log are the granted deliveries, in their order: each from the sending that put
   -- the beat on its leg to its arrival
   pub edges_are_the_granted_deliveries :
-      EdgesAreTheDeliveries m plan room steps s.log (edges 0 s.log)
+      EdgesAreTheDeliveries rules steps s.log (edges 0 s.log)

@@ -6,15 +6,16 @@ use Rattle.protocol.specs.declared.party.Standing.{Standing}
 use Rattle.protocol.specs.declared.party.Standing.TheVariants.{Outside, Live, Ended}
 use Rattle.protocol.specs.declared.table.Table.{Table}
 use Rattle.protocol.specs.declared.plan.Plan.{Plan}
-use Rattle.protocol.specs.Patience.{patience}
-use Rattle.protocol.specs.Party.{due, calls_in, nobody}
-use Rattle.protocol.specs.Group.{Play, round_ends}
+use Rattle.protocol.specs.Rules.{patience, clock_limit}
+use Rattle.protocol.specs.calls.Tick.{due, calls_in, round_ends}
+use Rattle.protocol.specs.Party.{nobody}
+use Rattle.protocol.specs.State.{State}
 
 -- the table, and the table with its log, at another clock
 abbrev pub clocked : ℕ → Table → Table
 clocked c t = record { clock = c; root = t.root; start = t.start; length = t.length; logged = t.logged; parties = t.parties }
 
-abbrev pub at_clock : ℕ → Play → Play
+abbrev pub at_clock : ℕ → State → State
 at_clock c s = record { table = clocked c s.table; log = s.log }
 
 -- a timer does nothing after so many ticks of silence: only a live party has one, its patience lasts, and it does not call again
@@ -35,5 +36,5 @@ pub record Quiet (m : Meaning) (plan : Plan) (t : Table) (c : ℕ) : Type 0 wher
 
 -- nothing is due from the clock up to b, which the clock may come to
 pub record QuietUntil (m : Meaning) (plan : Plan) (t : Table) (b : ℕ) : Type 0 where
-  pub limit : t.clock < b → b ≤ 4000000000
+  pub limit : t.clock < b → b ≤ clock_limit
   pub quiet : (c : ℕ) → t.clock ≤ c → c < b → Quiet m plan t c

@@ -1,12 +1,11 @@
 -- A run as the steps that were taken, each a call with its answer.
 use Rattle.std.specs.Prelude.{◌≡◌, ℕ, ◌+◌, Bool, cond, List, [], ◌∷◌, is_ok}
-use Rattle.protocol.specs.declared.plan.Plan.{Plan}
 use Rattle.protocol.specs.declared.call.Call.{Call}
 use Rattle.protocol.specs.declared.call.Call.TheVariants.{Tick, Deliver, Lose, Crash, Join, Leave}
 use Rattle.protocol.specs.declared.call.Step.{Step}
-use Rattle.pace.specs.Meaning.{Meaning}
-use Rattle.protocol.specs.Group.{Play, opened}
-use Rattle.protocol.specs.Answers.{told}
+use Rattle.protocol.specs.Rules.{Rules}
+use Rattle.protocol.specs.State.{State, opening}
+use Rattle.protocol.specs.Answers.{number_told}
 use Rattle.protocol.specs.Runs.{number, perform}
 
 -- the call of a step, and the number that its answer tells
@@ -14,12 +13,12 @@ abbrev pub call_of : Step → Call
 call_of x = x.call
 
 abbrev pub answer_of : Step → ℕ
-answer_of x = told x.answer
+answer_of x = number_told x.answer
 
 -- the steps lead from s to s': each answers its call's number and does what the call does
-abbrev pub Rehearsed : Meaning → Plan → ℕ → Play → List Step → Play → Type 0
-Rehearsed m plan room s [] s' = s' ≡ s
-Rehearsed m plan room s (x ∷ xs) s' = (told x.answer ≡ number plan room x.call s) × Rehearsed m plan room (perform m plan room x.call s) xs s'
+abbrev pub Rehearsed : Rules → State → List Step → State → Type 0
+Rehearsed rules s [] s' = s' ≡ s
+Rehearsed rules s (x ∷ xs) s' = (number_told x.answer ≡ number rules x.call s) × Rehearsed rules (perform rules x.call s) xs s'
 
 -- what a call adds to the clock, if it was granted
 abbrev pub adds : Call → Bool → ℕ
@@ -38,5 +37,5 @@ granted_ticks (x ∷ xs) = adds x.call (is_ok x.answer) + granted_ticks xs
 -- in every run the clock tells how many ticks were granted
 abbrev pub RunsCountTheirTicks : Type 0
 RunsCountTheirTicks =
-    (m : Meaning) (plan : Plan) (room : ℕ) (steps : List Step) (s : Play) →
-    Rehearsed m plan room (opened m plan) steps s → s.table.clock ≡ granted_ticks steps
+    (rules : Rules) (steps : List Step) (s : State) →
+    Rehearsed rules (opening rules) steps s → s.table.clock ≡ granted_ticks steps

@@ -1,14 +1,13 @@
 -- How long beats are under way: each arrives or is lost at most a trip after its sending.
 use Rattle.std.specs.Prelude.{◌≡◌, ℕ, ◌+◌, ◌<◌, ◌≤◌, true, List, length, Some}
-use Rattle.pace.specs.Meaning.{Meaning, Lawful}
+use Rattle.pace.specs.Meaning.{Lawful}
 use Rattle.protocol.specs.declared.party.Beat.{Beat}
 use Rattle.protocol.specs.declared.happening.Happening.{Happening}
-use Rattle.protocol.specs.declared.plan.Plan.{Plan}
 use Rattle.protocol.specs.declared.call.Call.{Call}
-use Rattle.protocol.specs.Patience.{trip}
+use Rattle.protocol.specs.Rules.{trip, Rules}
 use Rattle.protocol.specs.Party.{on_leg}
-use Rattle.protocol.specs.Group.{Play, the}
-use Rattle.protocol.specs.Runs.{reached}
+use Rattle.protocol.specs.State.{State, the}
+use Rattle.protocol.specs.Runs.{run_state}
 use Rattle.protocol.specs.Beats.{settles, happening_at}
 
 -- the tick of the record at place k
@@ -17,16 +16,16 @@ tick_at log k = (happening_at log k).tick
 
 -- a settled beat was under way for at most a trip; one on a leg may still arrive, by its last tick,
 -- which is at most a trip after its sending
-pub record BeatsComeInTime (m : Meaning) (plan : Plan) (s : Play) : Type 0 where
+pub record BeatsComeInTime (rules : Rules) (s : State) : Type 0 where
   pub settled :
       (k : ℕ) → k < length s.log → settles (happening_at s.log k).kind ≡ true →
-      tick_at s.log k ≤ tick_at s.log (happening_at s.log k).link + trip m
+      tick_at s.log k ≤ tick_at s.log (happening_at s.log k).link + trip rules.meaning
   pub under_way :
-      (i leg : ℕ) (b : Beat) → 1 ≤ i → i ≤ plan.n → on_leg leg (the i s.table) ≡ Some b →
-      (s.table.clock ≤ b.last) × (b.last ≤ tick_at s.log b.place + trip m)
+      (i leg : ℕ) (b : Beat) → 1 ≤ i → i ≤ rules.plan.n → on_leg leg (the i s.table) ≡ Some b →
+      (s.table.clock ≤ b.last) × (b.last ≤ tick_at s.log b.place + trip rules.meaning)
 
 -- in every run beats come in time
 abbrev pub RunsBringBeatsInTime : Type 0
 RunsBringBeatsInTime =
-    (m : Meaning) → Lawful m → (plan : Plan) (room : ℕ) (calls : List Call) →
-    BeatsComeInTime m plan (reached m plan room calls)
+    (rules : Rules) → Lawful rules.meaning → (calls : List Call) →
+    BeatsComeInTime rules (run_state rules calls)

@@ -9,19 +9,27 @@ use Rattle.protocol.specs.declared.call.Call.{Call}
 use Rattle.protocol.specs.declared.call.Call.TheVariants.{Tick}
 use Rattle.protocol.specs.declared.call.Step.{Step}
 use Rattle.protocol.specs.declared.refusal.Refusal.{Refusal}
-use Rattle.protocol.specs.Group.{Play, opened}
+use Rattle.slots.specs.Slots.{items}
+use Rattle.protocol.specs.declared.plan.Plan.{Plan}
+use Rattle.protocol.specs.State.{State, opening, new_table}
 use Rattle.protocol.proofs.Rehearsal.{then, keeps}
 use Rattle.group.specs.declared.group.Group.{Group}
-use Rattle.group.specs.Does.{Rules, rules, state, Stays, Does}
+use Rattle.group.specs.Does.{rules, state, Stays, Does}
 use Rattle.group.proofs.Staying.{same_rules}
 use Rattle.group.specs.Advance.{WentOn}
 use Rattle.runs.specs.Runs.{IsRun, Leads}
 use Rattle.runs.proofs.Answering.{makes_run}
+use Rattle.protocol.specs.Rules.{Rules}
 
 module _ {A : Type 0} {D : Ghosts A} where
+  -- a group that was just opened, over an empty log
+  pub opened : (m : A) (plan : Plan) (g : Group A D) (l : SlotList Happening) → g.pace ≡ m → g.plan ≡ plan →
+      g.table ≡ new_table (D.means m).tmax plan.kind → items l ≡ [] → state g l ≡ opening (rules g l)
+  opened m plan g l pace plans table empty = cc (pace, plans, table, empty)
+
   -- a new group is a run
-  pub opens : (g : Group A D) (l : SlotList Happening) → Lawful (D.means g.pace) → state g l ≡ opened (D.means g.pace) g.plan → ∥ IsRun (rules g l) (state g l) ∥₁
-  opens g l sound e = let R = rules g l in ∣ ([], keeps R.meaning R.plan R.room sound [] (state g l) e) ∣₁
+  pub opens : (g : Group A D) (l : SlotList Happening) → Lawful (D.means g.pace) → state g l ≡ opening (rules g l) → ∥ IsRun (rules g l) (state g l) ∥₁
+  opens g l sound e = let R = rules g l in ∣ ([], keeps R sound [] (state g l) e) ∣₁
 
   -- some steps more
   pub goes_on : (g g' : Group A D) (l l' : SlotList Happening) (steps : List Step) → Lawful (D.means g.pace) → Stays g g' l l' →
@@ -31,7 +39,7 @@ module _ {A : Type 0} {D : Ghosts A} where
       let on = λ (r : IsRun R (state g l)).
       let all = r.0 ++ steps in
       subst (λ (Q : Rules). IsRun Q (state g' l')) (sym (same_rules g g' l l' stays))
-      (all, keeps R.meaning R.plan R.room sound all (state g' l') (then R.meaning R.plan R.room (opened R.meaning R.plan) r.0 (state g l) steps (state g' l') r.1.by_the_rules leads)) in
+      (all, keeps R sound all (state g' l') (then R (opening R) r.0 (state g l) steps (state g' l') r.1.by_the_rules leads)) in
       ∥∥₁_map run on
 
   -- a call more
@@ -44,5 +52,5 @@ module _ {A : Type 0} {D : Ghosts A} where
       WentOn until g g' l l' answer → ∥ IsRun (rules g l) (state g l) ∥₁ → ∥ IsRun (rules g' l') (state g' l') ∥₁
   went_on until g g' l l' answer sound h =
       let R = rules g l in
-      let made = makes_run R.meaning R.plan R.room (replicate (until - g.table.clock) Tick) (state g l) in
-      goes_on g g' l l' made.steps sound h.stays (subst (λ (s : Play). Leads R (state g l) made.steps s) (sym h.after) made.by_the_rules)
+      let made = makes_run R (replicate (until - g.table.clock) Tick) (state g l) in
+      goes_on g g' l l' made.steps sound h.stays (subst (λ (s : State). Leads R (state g l) made.steps s) (sym h.after) made.by_the_rules)

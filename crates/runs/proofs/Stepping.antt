@@ -6,14 +6,15 @@ use Rattle.slots.specs.declared.SlotList.{SlotList}
 use Rattle.protocol.specs.declared.happening.Happening.{Happening}
 use Rattle.protocol.specs.declared.call.Step.{Step}
 use Rattle.protocol.specs.declared.refusal.Refusal.{Refusal}
-use Rattle.protocol.specs.Answers.{told}
+use Rattle.protocol.specs.Answers.{number_told}
 use Rattle.protocol.specs.Runs.{number, perform}
 use Rattle.protocol.specs.Rehearsals.{call_of}
 use Rattle.protocol.proofs.Rehearsal.{map_set, more}
 use Rattle.group.specs.declared.group.Group.{Group}
-use Rattle.group.specs.Does.{Rules, rules, state, Stays, Does}
+use Rattle.group.specs.Does.{rules, state, Stays, Does}
 use Rattle.group.proofs.Staying.{stays_on, same_rules}
 use Rattle.runs.specs.Runs.{Leads}
+use Rattle.protocol.specs.Rules.{Rules}
 
 -- the first n calls were made
 pub record DoesFirst {A : Type 0} {d : Ghosts A} (n : ℕ) (g g' : Group A d) (l l' : SlotList Happening) (steps steps' : List Step) : Type 0 where
@@ -33,7 +34,7 @@ put_next n x a b c k l m xs ys answer within h d =
       stays = stays_on a b c k l m h.stays d.stays;
       calls = map_set call_of ys n y x refl ∙ h.calls;
       leads = rw (take_more_set ys n y within)
-          (more R.meaning R.plan R.room (state a k) (take n ys) (state b l) y (state c m) h.leads
-          (subst (λ (R : Rules). told answer ≡ number R.plan R.room y.call (state b l)) same d.number)
-          (subst (λ (R : Rules). state c m ≡ perform R.meaning R.plan R.room y.call (state b l)) same d.after));
+          (more R (state a k) (take n ys) (state b l) y (state c m) h.leads
+          (subst (λ (R : Rules). number_told answer ≡ number R y.call (state b l)) same d.number)
+          (subst (λ (R : Rules). state c m ≡ perform R y.call (state b l)) same d.after));
     }

@@ -1,25 +1,24 @@
 -- What every run is, and what several calls do to it.
-use Rattle.std.specs.Prelude.{◌≡◌, ℕ, List, map}
-use Rattle.pace.specs.Meaning.{Meaning}
+use Rattle.std.specs.Prelude.{◌≡◌, List, map}
 use Rattle.pace.specs.declared.meaning.Pace.{Ghosts}
 use Rattle.slots.specs.declared.SlotList.{SlotList}
 use Rattle.protocol.specs.declared.happening.Happening.{Happening}
-use Rattle.protocol.specs.declared.plan.Plan.{Plan}
 use Rattle.protocol.specs.declared.call.Call.{Call}
 use Rattle.protocol.specs.declared.call.Step.{Step}
-use Rattle.protocol.specs.Group.{Play}
+use Rattle.protocol.specs.Rules.{Rules}
+use Rattle.protocol.specs.State.{State}
 use Rattle.protocol.specs.Rehearsals.{Rehearsed, call_of}
 use Rattle.protocol.specs.Promise.{KeepsTheRules}
 use Rattle.group.specs.declared.group.Group.{Group}
-use Rattle.group.specs.Does.{Rules, rules, state, Stays}
+use Rattle.group.specs.Does.{rules, state, Stays}
 
 -- there are steps that lead there from the opening, and they keep the promise of a run
-abbrev pub IsRun : Rules → Play → Type 0
-IsRun R s = (steps : List Step) × KeepsTheRules R.meaning R.plan R.room steps s
+abbrev pub IsRun : Rules → State → Type 0
+IsRun R s = (steps : List Step) × KeepsTheRules R steps s
 
 -- the steps, each a call with its answer, lead by the rules from s to s'
-abbrev pub Leads : Rules → Play → List Step → Play → Type 0
-Leads R s steps s' = Rehearsed R.meaning R.plan R.room s steps s'
+abbrev pub Leads : Rules → State → List Step → State → Type 0
+Leads R s steps s' = Rehearsed R s steps s'
 
 -- every call of the steps was made in turn, and its answer put beside it
 pub record DoesAll {A : Type 0} {d : Ghosts A} (g g' : Group A d) (l l' : SlotList Happening)
@@ -30,8 +29,7 @@ pub record DoesAll {A : Type 0} {d : Ghosts A} (g g' : Group A d) (l l' : SlotLi
 
 -- a run of those calls by the rules: there are steps, each a call with its answer, that lead
 -- from s to s'
-pub record RunOf (m : Meaning) (plan : Plan) (room : ℕ) (calls : List Call)
-    (s s' : Play) : Type 0 where
+pub record RunOf (rules : Rules) (calls : List Call) (s s' : State) : Type 0 where
   pub steps : List Step
-  pub by_the_rules : Rehearsed m plan room s steps s'
+  pub by_the_rules : Rehearsed rules s steps s'
   pub made : map call_of steps ≡ calls

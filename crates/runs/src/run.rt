@@ -1,6 +1,6 @@
 // A group with its log. Every value of the type is a run by the rules, and keeps their promise.
 ghost use Rattle.std.specs.Prelude.{◌≡◌};
-ghost use Rattle.protocol.specs.Group.{opened};
+ghost use Rattle.protocol.specs.State.{opening};
 ghost use Rattle.group.specs.Advance.{WentOn};
 ghost use Rattle.group.specs.Does.{rules, state, Does};
 ghost use Rattle.runs.specs.Runs.{IsRun, DoesAll};
@@ -32,7 +32,7 @@ impl<'a, P: Pace> Run<'a, P> {
         ensures pace { result.group.pace ≡ pace }
         ensures plan { result.group.plan ≡ plan }
         ensures slots { result.log.slots.now ≡ slots.old }
-        ensures opened { state result.group result.log ≡ opened (P.means pace) plan }
+        ensures opened { state result.group result.log ≡ opening (rules result.group result.log) }
         ensures lent { result.log.slots.ghost_name ≡ slots.entry.ghost_name }
     {
         Run {

@@ -1,9 +1,9 @@
 // The questions on the log.
 ghost use Rattle.std.specs.Prelude.{◌≡◌, ◌≤◌, OnOk};
 ghost use Rattle.slots.specs.Slots.{capacity};
-ghost use Rattle.protocol.specs.Answers.{told};
-ghost use Rattle.protocol.specs.Runs.{log_asks, is_own_log};
-ghost use Rattle.protocol.specs.Views.{play, Ready};
+ghost use Rattle.protocol.specs.Answers.{number_told};
+ghost use Rattle.protocol.specs.Questions.{log_asks, is_own_log};
+ghost use Rattle.protocol.specs.Views.{state_of, Ready};
 
 use protocol::happening::Happening;
 use protocol::refusal::Refusal;
@@ -18,7 +18,8 @@ pub(crate) fn ask_log(
     wanted: usize,
 ) -> Result<(), Refusal>
     requires { wanted ≤ 64 }
-    ensures number { told result ≡ log_asks wanted (capacity log.now) (play table.now log.now) }
+    ensures number { number_told result
+        ≡ log_asks wanted (capacity log.now) (state_of table.now log.now) }
     ensures ready { OnOk result (Ready log.now table.now.clock wanted) }
 {
     if log.free() < wanted {
@@ -30,9 +31,10 @@ pub(crate) fn ask_log(
     Ok(())
 }
 
-// Has the log as many records as the group wrote, none later than the clock? The last record answers for all.
+// Is the count of records right, and the last of them of no later tick than the clock? Ticks never
+// fall in a log, so no other record can be later.
 pub(crate) fn is_own_log(table: &Table, log: &SlotList<'_, Happening>) -> bool
-    ensures { result ≡ is_own_log (play table.now log.now) }
+    ensures { result ≡ is_own_log (state_of table.now log.now) }
 {
     log.len() == table.logged && log.last_tick() <= table.clock
 }

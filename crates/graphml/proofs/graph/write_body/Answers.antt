@@ -1,7 +1,7 @@
 use Rattle.std.proofs.Common.{◌+◌, ◌∙◌, arith}
 use Rattle.std.proofs.lemmas.Result.{err_from_is_err_and}
 use Rattle.graphml.specs.Body.{edges_from, parties_from}
-use Rattle.graphml.specs.State.{state}
+use Rattle.graphml.specs.Writer.{writer}
 use Rattle.graphml.proofs.Loops.{Left, left_as, left_more, left_stop}
 use Rattle.graphml.proofs.Steps.{one_party, no_party}
 use Rattle.graphml.proofs.graph.write_body.Goals as goal
@@ -19,7 +19,7 @@ loop-party-preserved c =
     left_more _ _ _ (left_as _ (one_party c.args.log.now c.loop-party.party c.args.parties (omega arith)) c.loop-party.invariant) told.whole told.after told.sound told.numbers
 
 -- every party is written, and only the edges are left
-only_edges : (c : After-write_edges) → Left (state c.loop-party-test.out) (edges_from 0 c.args.log.now) (state c.args.out.now) (parties_from c.args.log.now 0 (c.args.parties + 1)) 20
+only_edges : (c : After-write_edges) → Left (writer c.loop-party-test.out) (edges_from 0 c.args.log.now) (writer c.args.out.now) (parties_from c.args.log.now 0 (c.args.parties + 1)) 20
 only_edges c =
     elim c.loop-party-test.branch [
       | else-loop-party-test w ↦ rw w.out-is (left_as _ (no_party c.args.log.now c.loop-party.party c.args.parties (omega arith)) c.loop-party.invariant)

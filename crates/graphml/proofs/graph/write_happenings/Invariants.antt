@@ -1,8 +1,8 @@
 use Rattle.std.proofs.Common.{drop}
 use Rattle.graphml.specs.Body.{happenings_of}
-use Rattle.graphml.specs.State.{state}
+use Rattle.graphml.specs.Writer.{writer}
 use Rattle.graphml.proofs.Loops.{Left}
 use Rattle.graphml.proofs.graph.write_happenings.Given as goal
 
 abbrev pub invariant-loop-place : goal.invariant-loop-place
-invariant-loop-place l = Left (state l.out) (happenings_of l.party l.place (drop l.place l.log)) (state l.initial.out) (happenings_of l.party 0 l.log) 37
+invariant-loop-place l = Left (writer l.out) (happenings_of l.party l.place (drop l.place l.log)) (writer l.initial.out) (happenings_of l.party 0 l.log) 37

@@ -1,11 +1,11 @@
 use Rattle.std.proofs.Common.{◌≡◌, arith}
 use Rattle.graphml.specs.Body.{party_then}
-use Rattle.graphml.specs.State.{state, drawn}
+use Rattle.graphml.specs.Writer.{writer, drawn}
 use Rattle.graphml.specs.Numbers.{Fits}
 use Rattle.graphml.proofs.Party.{no_graph, all_in, no_graph_numbers, all_numbers}
 use Rattle.graphml.proofs.graph.write_party.Goals as goal
 use Rattle.graphml.proofs.graph.write_party.Goals.{After-close-run}
-use Rattle.markup.specs.Cut.{kept}
+use Rattle.markup.specs.Cut.{fitting_part}
 use Rattle.markup.specs.Forests.{none, Each}
 use Rattle.graphml.specs.Elements.{spelling}
 
@@ -21,7 +21,7 @@ returns-in-Err-clause-numbers c =
     let b = c.in-Err.ensures in
     no_graph_numbers c.args.party c.args.log.now c.requires a.room a.after (omega arith) b.room
 
-closed : (c : After-close-run) → state c.close-run.new.out ≡ drawn (state c.args.out.now) (party_then c.args.log.now c.args.party none)
+closed : (c : After-close-run) → writer c.close-run.new.out ≡ drawn (writer c.args.out.now) (party_then c.args.log.now c.args.party none)
 closed c =
     let a = c.in_ok-node.ensures in
     let b = c.in-Ok.ensures in
@@ -33,7 +33,7 @@ returns-in-Ok-written-clause-after c = closed (goal.at.returns-in-Ok-written-cla
 pub returns-in-Err-written-clause-after : goal.returns-in-Err-written-clause-after
 returns-in-Err-written-clause-after c = closed (goal.at.returns-in-Err-written-clause-after c).After-close-run
 
-numbered : (c : After-close-run) → Each Fits (kept spelling c.args.out.now.room (party_then c.args.log.now c.args.party none))
+numbered : (c : After-close-run) → Each Fits (fitting_part spelling c.args.out.now.room (party_then c.args.log.now c.args.party none))
 numbered c =
     let a = c.in_ok-node.ensures in
     let b = c.in-Ok.ensures in

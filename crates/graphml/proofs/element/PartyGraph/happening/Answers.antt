@@ -3,10 +3,10 @@ use Rattle.graphml.specs.Texts.{happening_line}
 use Rattle.graphml.proofs.Sounds.{counted}
 use Rattle.graphml.proofs.Words.{some_happening}
 use Rattle.graphml.proofs.element.PartyGraph.happening.Goals as goal
-use Rattle.graphml.specs.State.{state, Sound}
+use Rattle.graphml.specs.Writer.{writer, Sound}
 use Rattle.graphml.proofs.element.PartyGraph.happening.Goals.{In_ok-begin}
 
-one_more : (c : In_ok-begin) → Sound (state c.begin.new.out) 37 × ((state c.begin.new.out).happenings + (state c.begin.new.out).edges < (state c.begin.new.out).out.at)
+one_more : (c : In_ok-begin) → Sound (writer c.begin.new.out) 37 × ((writer c.begin.new.out).happenings + (writer c.begin.new.out).edges < (writer c.begin.new.out).out.at)
 one_more c =
     let told = c.in_ok-begin.ensures in
     counted (happening_line c.args.place c.args.happening.now) 37 (c.as_slice.ensures.text ∙ c.happening_line.ensures.line) (some_happening c.args.place c.args.happening.now) told.room told.after c.requires

@@ -3,10 +3,10 @@ use Rattle.graphml.specs.Texts.{edge_line}
 use Rattle.graphml.proofs.Sounds.{counted}
 use Rattle.graphml.proofs.Words.{some_edge}
 use Rattle.graphml.proofs.element.RunGraph.edge.Goals as goal
-use Rattle.graphml.specs.State.{state, Sound}
+use Rattle.graphml.specs.Writer.{writer, Sound}
 use Rattle.graphml.proofs.element.RunGraph.edge.Goals.{In_ok-begin}
 
-one_more : (c : In_ok-begin) → Sound (state c.begin.new.out) 20 × ((state c.begin.new.out).happenings + (state c.begin.new.out).edges < (state c.begin.new.out).out.at)
+one_more : (c : In_ok-begin) → Sound (writer c.begin.new.out) 20 × ((writer c.begin.new.out).happenings + (writer c.begin.new.out).edges < (writer c.begin.new.out).out.at)
 one_more c =
     let told = c.in_ok-begin.ensures in
     counted (edge_line c.args.source c.args.target) 20 (c.as_slice.ensures.text ∙ c.edge_line.ensures) (some_edge c.args.source c.args.target) told.room told.after c.requires

@@ -1,9 +1,10 @@
 use Rattle.std.proofs.Common.{◌<◌, refl, ◌∙◌, arith}
 use Rattle.std.proofs.lemmas.Bool.Decides.{nat_tests}
 use Rattle.slots.proofs.Growing.{extends_refl}
-use Rattle.protocol.specs.Answers.{told}
-use Rattle.protocol.specs.Views.{play}
+use Rattle.protocol.specs.Answers.{number_told}
+use Rattle.protocol.specs.Views.{state_of}
 use Rattle.protocol.proofs.Quiet.{quiet_later}
+use Rattle.group.specs.Does.{rules_by}
 use Rattle.group.proofs.Quietly.{sane_later, refused_quietly, counted_quietly}
 use Rattle.group.proofs.Safe.{sane_at, sane_ticked}
 use Rattle.group.proofs.Towards.{handed_on}
@@ -15,7 +16,7 @@ returns-in_err-ask_quiet_tick g c =
     let l = c.args.log.now in
     let handed = handed_on c.from_residual.result c.in_err-ask_quiet_tick.field-0.0 c.from_residual.ensures.1 in
     let h = refused_quietly (g.P.Pace.means me.pace) me.plan me.table l me.quiet_until c.if-self.true me.quiet
-    (told c.from_residual.result) handed.1 (handed.0 ∙ c.in_err-ask_quiet_tick.ensures.number) handed.2 in
+    (number_told c.from_residual.result) handed.1 (handed.0 ∙ c.in_err-ask_quiet_tick.ensures.number) handed.2 in
     record { stays = record { pace = refl; plan = refl; extends = extends_refl l }; number = h.number; after = h.after }
 
 pub invariant_of-self-then-self : goal.invariant_of-self-then-self
@@ -33,7 +34,7 @@ invariant_of-self-else-self g c =
     let early : me.table.clock < 4000000000 = let asked = c.in_ok-ask_tick.ensures.number in grind (arith, nat_tests) in
     let after = sane_at c.do_tick.new.table c.do_tick.new.log _ c.do_tick.ensures.after in
     record {
-      sane = after (sane_ticked (g.P.Pace.means me.pace) (g.met.P.Pace.lawful me.pace) me.plan.n me.plan.kind (play me.table c.args.log.now) early me.sane);
+      sane = after (sane_ticked (rules_by (g.P.Pace.means me.pace) me.plan c.args.log.now) (g.met.P.Pace.lawful me.pace) (state_of me.table c.args.log.now) early me.sane);
       quiet = c.next_due-self.ensures.until;
     }
 
