@@ -1,12 +1,12 @@
 -- Looking for a misfit, one line or one place more.
-use Rattle.std.proofs.Common.{◌≡◌, ℕ, ◌+◌, Bool, true, false, ◌||◌, List, [], ◌∷◌, Some, None, Option, Bor, MatchOption, refl, eqb, eq-eqb, ne_eqb, sym, ap, ◌∙◌}
+use Rattle.std.proofs.Common.{drop, ◌≡◌, ℕ, ◌+◌, Bool, true, false, ◌||◌, List, [], ◌∷◌, Some, None, Option, Bor, MatchOption, refl, eqb, eq-eqb, ne_eqb, sym, ap, ◌∙◌}
 use Rattle.std.specs.Option.{option_map}
 use Rattle.schedule.specs.declared.complaint.Cause.{Cause}
 use Rattle.schedule.specs.declared.place.Place.{Place}
-use Rattle.schedule.specs.Cuts.{line_words, behind}
+use Rattle.schedule.specs.Cuts.{line_words}
 use Rattle.schedule.specs.Maps.{has_words}
 use Rattle.schedule.specs.Places.{fault}
-use Rattle.schedule.specs.Misfits.{next_word, first_misfit, line_misfit, misfit_at}
+use Rattle.schedule.specs.Misfits.{first_word, first_misfit, line_misfit, misfit_at}
 
 module _ (m n n' : ℕ) (b : Bool) (ls ls' : List (List ℕ)) (l : List ℕ) (e : ls ≡ l ∷ ls') (c : n' ≡ n + 1) where
   pub line_reached : n' ≡ m → misfit_at m b n ls ≡ line_misfit b (line_words l)
@@ -28,11 +28,11 @@ unfolding misfit_at
 no_line_left m b n ls e = rw e refl
 
 module _ (p : Place) (ps ps' : List Place) (ws : List (List ℕ)) (e : ps ≡ p ∷ ps') where
-  pub found_misfit : (w : Option (List ℕ)) (c : Cause) → w ≡ next_word ws → fault p w ≡ Some c → first_misfit ps ws ≡ Some record { word = w; place = p; cause = c }
+  pub found_misfit : (w : Option (List ℕ)) (c : Cause) → w ≡ first_word ws → fault p w ≡ Some c → first_misfit ps ws ≡ Some record { word = w; place = p; cause = c }
   unfolding first_misfit
   found_misfit w c h k = let t = ap (fault p) (sym h) ∙ k in rw (e, t, h) refl
 
-  pub passed_place : (w : Option (List ℕ)) → w ≡ next_word ws → fault p w ≡ None → first_misfit ps ws ≡ first_misfit ps' (behind ws)
+  pub passed_place : (w : Option (List ℕ)) → w ≡ first_word ws → fault p w ≡ None → first_misfit ps ws ≡ first_misfit ps' (drop 1 ws)
   unfolding first_misfit
   passed_place w h k = let t = ap (fault p) (sym h) ∙ k in rw (e, t) refl
 
@@ -42,6 +42,6 @@ no_place ps ws e = rw e refl
 
 -- what is next of the words, and what is left of them
 pub word_taken : (r : Option (Bor (List ℕ))) (ws ws' : List (List ℕ)) → MatchOption r ((ws ≡ []) × (ws' ≡ [])) (λ w. ws ≡ w.now ∷ ws') →
-    (option_map (λ (w : Bor (List ℕ)). w.now) r ≡ next_word ws) × (behind ws ≡ ws')
-word_taken None ws ws' h = (sym (ap next_word h.0), ap behind h.0 ∙ sym h.1)
-word_taken (Some w) ws ws' h = (sym (ap next_word h), ap behind h)
+    (option_map (λ (w : Bor (List ℕ)). w.now) r ≡ first_word ws) × (drop 1 ws ≡ ws')
+word_taken None ws ws' h = (sym (ap first_word h.0), ap (drop 1) h.0 ∙ sym h.1)
+word_taken (Some w) ws ws' h = (sym (ap first_word h), ap (drop 1) h)

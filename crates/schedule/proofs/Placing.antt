@@ -8,9 +8,9 @@ use Rattle.orders.specs.declared.start.Start.{Start}
 use Rattle.orders.specs.Loading.{tick_of}
 use Rattle.schedule.specs.declared.complaint.Cause.{Cause}
 use Rattle.schedule.specs.Cuts.{lines_in, line_words}
-use Rattle.schedule.specs.Words.{number}
+use Rattle.schedule.specs.Words.{number_word}
 use Rattle.schedule.specs.Records.{and_then, order_behind, start_in, order_in}
-use Rattle.schedule.specs.Texts.{Reading, appended, order_met, orders_from, start_met, lines_from}
+use Rattle.schedule.specs.Texts.{Reading, append_reading, order_reading, order_lines_from, start_reading, start_lines_from}
 use Rattle.schedule.specs.Maps.{has_words, worded, MapsOrders}
 use Rattle.schedule.proofs.Complained.{start_bare, start_there}
 
@@ -62,7 +62,7 @@ some_tick (Err c) more e = let z : ◌≡◌ {A = ℕ} 0 1 = cc in omega arith
 order_bare : (ws : List (List ℕ)) → order_in ws ≡ Ok None → has_words ws ≡ false
 unfolding order_in
 order_bare [] e = refl
-order_bare (w ∷ ws) e = absurd (some_tick (number 4294967295 w) (λ tick. order_behind tick ws) e)
+order_bare (w ∷ ws) e = absurd (some_tick (number_word 4294967295 w) (λ tick. order_behind tick ws) e)
 
 order_there : (ws : List (List ℕ)) (o : Order) → order_in ws ≡ Ok (Some o) → has_words ws ≡ true
 unfolding order_in
@@ -88,38 +88,38 @@ module _ (s : Start) where
       ∙ ap (λ b. told xs ++ read_off (onto_if b (line_words l) (records ls))) (sym (order_there (line_words l) o e))
 
   appended_lines : (l : List ℕ) (ls : List (List ℕ)) (n : ℕ) (xs ys : List Order) (o : Order) (m : Reading) (a : Result (Unit {0}) Refusal) → order_in (line_words l) ≡ Ok (Some o) →
-      FromLines ls (xs ++ o ∷ []) m → FromLines (l ∷ ls) xs (appended n xs ys m a)
+      FromLines ls (xs ++ o ∷ []) m → FromLines (l ∷ ls) xs (append_reading n xs ys m a)
   appended_lines l ls n xs ys o m (Ok u) e k h = k h ∙ one_more l ls xs o e
   appended_lines l ls n xs ys o m (Err x) e k h = absurd (let z : ◌≡◌ {A = ℕ} 0 1 = cc in omega arith)
 
   met_lines : (l : List ℕ) (ls : List (List ℕ)) (n : ℕ) (more : List Order → List Order → Reading) (xs ys : List Order) (r : Result (Option Order) Cause) → order_in (line_words l) ≡ r →
-      ((us vs : List Order) → FromLines ls us (more us vs)) → FromLines (l ∷ ls) xs (order_met n more xs ys r)
+      ((us vs : List Order) → FromLines ls us (more us vs)) → FromLines (l ∷ ls) xs (order_reading n more xs ys r)
   met_lines l ls n more xs ys (Ok None) e k h =
       k xs ys h ∙ ap (λ b. told xs ++ read_off (onto_if b (line_words l) (records ls))) (sym (order_bare (line_words l) e))
   met_lines l ls n more xs ys (Ok (Some o)) e k h =
       appended_lines l ls n xs ys o (more (xs ++ o ∷ []) (drop 1 ys)) (append_answer tick_of xs ys o) e (k (xs ++ o ∷ []) (drop 1 ys)) h
   met_lines l ls n more xs ys (Err c) e k h = absurd (let z : ◌≡◌ {A = ℕ} 0 1 = cc in omega arith)
 
-  from_lines : (t : Start) (n : ℕ) (ls : List (List ℕ)) (xs ys : List Order) → FromLines ls xs (orders_from t n ls xs ys)
-  unfolding orders_from
+  from_lines : (t : Start) (n : ℕ) (ls : List (List ℕ)) (xs ys : List Order) → FromLines ls xs (order_lines_from t n ls xs ys)
+  unfolding order_lines_from
   from_lines t n [] xs ys h = sym (append-nil (told xs))
   from_lines t n (l ∷ ls) xs ys h =
-      met_lines l ls (n + 1) (orders_from t (n + 1) ls) xs ys (order_in (line_words l)) refl (λ us vs. from_lines t (n + 1) ls us vs) h
+      met_lines l ls (n + 1) (order_lines_from t (n + 1) ls) xs ys (order_in (line_words l)) refl (λ us vs. from_lines t (n + 1) ls us vs) h
 
   -- behind the start's line
   abbrev FromStart : List (List ℕ) → Reading → Type 0
   FromStart ls r = r.answer ≡ Ok s → told r.items ≡ read_off (drop 1 (records ls))
 
-  start_lines : (l : List ℕ) (ls : List (List ℕ)) (n : ℕ) (ys : List Order) (r : Result (Option Start) Cause) → start_in (line_words l) ≡ r → FromStart ls (lines_from n ls [] ys) →
-      FromStart (l ∷ ls) (start_met n (lines_from n ls [] ys) (λ t. orders_from t n ls [] ys) [] ys r)
+  start_lines : (l : List ℕ) (ls : List (List ℕ)) (n : ℕ) (ys : List Order) (r : Result (Option Start) Cause) → start_in (line_words l) ≡ r → FromStart ls (start_lines_from n ls [] ys) →
+      FromStart (l ∷ ls) (start_reading n (start_lines_from n ls [] ys) (λ t. order_lines_from t n ls [] ys) [] ys r)
   start_lines l ls n ys (Ok None) e k h =
       k h ∙ ap (λ b. read_off (drop 1 (onto_if b (line_words l) (records ls)))) (sym (start_bare (line_words l) e))
   start_lines l ls n ys (Ok (Some t)) e k h =
       from_lines t n ls [] ys h ∙ ap (λ b. read_off (drop 1 (onto_if b (line_words l) (records ls)))) (sym (start_there (line_words l) t e))
   start_lines l ls n ys (Err c) e k h = absurd (let z : ◌≡◌ {A = ℕ} 0 1 = cc in omega arith)
 
-  from_start : (n : ℕ) (ls : List (List ℕ)) (ys : List Order) → FromStart ls (lines_from n ls [] ys)
-  unfolding lines_from
+  from_start : (n : ℕ) (ls : List (List ℕ)) (ys : List Order) → FromStart ls (start_lines_from n ls [] ys)
+  unfolding start_lines_from
   from_start n [] ys h = absurd (let z : ◌≡◌ {A = ℕ} 0 1 = cc in omega arith)
   from_start n (l ∷ ls) ys h = start_lines l ls (n + 1) ys (start_in (line_words l)) refl (from_start (n + 1) ls ys) h
 

@@ -4,7 +4,7 @@ use Rattle.orders.specs.declared.order.Order.{Order}
 use Rattle.orders.specs.declared.start.Start.{Start}
 use Rattle.schedule.specs.Cuts.{lines_in, line_words}
 use Rattle.schedule.specs.Records.{order_in}
-use Rattle.schedule.specs.Texts.{reads}
+use Rattle.schedule.specs.Texts.{reading_of}
 
 abbrev pub has_words : List (List ℕ) → Bool
 has_words [] = false
@@ -29,5 +29,5 @@ words_at text m = line_words (slice_index_or (lines_in text) (m - 1) [])
 -- behind the start's line, they are the lines of the orders, one for each, in the orders' own order
 abbrev pub MapsOrders : Type 0
 MapsOrders =
-    (text : List ℕ) (slots : List Order) (s : Start) → (reads text slots).answer ≡ Ok s
-    → map (λ m. order_in (words_at text m)) (drop 1 (record_lines text)) ≡ map (λ o. Ok (Some o)) (reads text slots).items
+    (text : List ℕ) (slots : List Order) (s : Start) → (reading_of text slots).answer ≡ Ok s
+    → map (λ m. order_in (words_at text m)) (drop 1 (record_lines text)) ≡ map (λ o. Ok (Some o)) (reading_of text slots).items

@@ -1,5 +1,5 @@
 -- The first word of a line that does not fit its place.
-use Rattle.std.specs.Prelude.{◌≡◌, ℕ, ◌+◌, ◌==◌, Bool, true, false, ◌||◌, if◌then◌else◌, List, [], ◌∷◌, Some, None, Err, Option}
+use Rattle.std.specs.Prelude.{drop, ◌≡◌, ℕ, ◌+◌, ◌==◌, Bool, true, false, ◌||◌, if◌then◌else◌, List, [], ◌∷◌, Some, None, Err, Option}
 use Rattle.std.specs.Option.{option_map}
 use Rattle.std.specs.Result.{result_err}
 use Rattle.orders.specs.declared.order.Order.{Order}
@@ -7,10 +7,10 @@ use Rattle.schedule.specs.declared.complaint.Cause.{Cause}
 use Rattle.schedule.specs.declared.complaint.Cause.TheVariants.{MissingWord, UnknownWord, NotANumber, NumberTooLarge, WordTooMany, EarlierTick, NoSlot, NoStart, NoRoom}
 use Rattle.schedule.specs.declared.misfit.Misfit.{Misfit}
 use Rattle.schedule.specs.declared.place.Place.{Place}
-use Rattle.schedule.specs.Cuts.{lines_in, line_words, behind}
+use Rattle.schedule.specs.Cuts.{lines_in, line_words}
 use Rattle.schedule.specs.Maps.{has_words}
 use Rattle.schedule.specs.Records.{start_in, order_in}
-use Rattle.schedule.specs.Texts.{reads}
+use Rattle.schedule.specs.Texts.{reading_of}
 use Rattle.schedule.specs.Places.{fault, start_places, order_places, second_kind}
 
 -- what a misfit says, wherever its word lies
@@ -22,9 +22,9 @@ pub record Told : Type 0 where
 abbrev pub seen : Misfit → Told
 seen m = record { word = option_map (λ w. w.now) m.word; place = m.place; cause = m.cause }
 
-abbrev pub next_word : List (List ℕ) → Option (List ℕ)
-next_word [] = None
-next_word (w ∷ ws) = Some w
+abbrev pub first_word : List (List ℕ) → Option (List ℕ)
+first_word [] = None
+first_word (w ∷ ws) = Some w
 
 -- a fault of the word at this place, or what comes of the later ones
 abbrev pub told_or : Option (List ℕ) → Place → Option Told → Option Cause → Option Told
@@ -33,7 +33,7 @@ told_or w p more None = more
 
 unfoldable pub first_misfit : List Place → List (List ℕ) → Option Told
 first_misfit [] ws = None
-first_misfit (p ∷ ps) ws = told_or (next_word ws) p (first_misfit ps (behind ws)) (fault p (next_word ws))
+first_misfit (p ∷ ps) ws = told_or (first_word ws) p (first_misfit ps (drop 1 ws)) (fault p (first_word ws))
 
 -- on a line of these words, once a start was read or before
 abbrev pub line_misfit : Bool → List (List ℕ) → Option Told
@@ -71,5 +71,5 @@ is_about_word NoRoom = false
 -- the complaint about a word of a text is that of the misfit on the complaint's line
 abbrev pub ComplaintsExplained : Type 0
 ComplaintsExplained =
-    (text : List ℕ) (slots : List Order) (e : Cause) → (reads text slots).answer ≡ Err e → is_about_word e ≡ true
-    → cause_told (misfit_at (reads text slots).line false 0 (lines_in text)) ≡ Some e
+    (text : List ℕ) (slots : List Order) (e : Cause) → (reading_of text slots).answer ≡ Err e → is_about_word e ≡ true
+    → cause_told (misfit_at (reading_of text slots).line false 0 (lines_in text)) ≡ Some e

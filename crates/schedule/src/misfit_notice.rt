@@ -1,7 +1,7 @@
 // A misfit in words.
 ghost use Rattle.std.specs.Prelude.{◌≡◌, ◌≤◌, length, take};
 ghost use Rattle.std.specs.Option.{option_map};
-ghost use Rattle.text.specs.Lines.{padded};
+ghost use Rattle.text.specs.Lines.{padded_text};
 ghost use Rattle.schedule.specs.Misfits.{seen};
 ghost use Rattle.schedule.specs.MisfitNotices.{met_words, misfit_line, place_words};
 
@@ -15,7 +15,7 @@ const SHOWN: usize = 40;
 
 /// The line that tells a planner which word was met, and what is due in its place.
 pub fn misfit_notice(misfit: Misfit<'_>) -> LineBytes
-    ensures bytes { result.bytes ≡ padded (misfit_line (seen misfit.entry)) }
+    ensures bytes { result.bytes ≡ padded_text (misfit_line (seen misfit.entry)) }
     ensures len { result.len ≡ length (misfit_line (seen misfit.entry)) }
     ensures within { result.len ≤ 128 }
 {

@@ -1,7 +1,8 @@
 // The places of the words on a line, and what is wrong with a word at its place.
 ghost use Rattle.std.specs.Prelude.{◌≡◌};
 ghost use Rattle.std.specs.Option.{option_map};
-ghost use Rattle.schedule.specs.Cuts.{line_words, behind};
+ghost use Rattle.std.specs.Prelude.{drop};
+ghost use Rattle.schedule.specs.Cuts.{line_words};
 ghost use Rattle.schedule.specs.Places.{fault, order_places, second_kind};
 
 use crate::complaint::Cause;
