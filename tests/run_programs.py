@@ -47,6 +47,8 @@ KIND_DUE = "closed, expanding or dynamic"
 ORDER_DUE = "deliver, lose, crash, join, leave or wait"
 PACE_DUE = "halving or two-phase"
 CAP_DUE = "the cap, a number up to 255,"
+PARTIES_DUE = "the number of parties, up to 255,"
+TMAX_DUE = "tmax, a number up to 4294967295,"
 TICK_DUE = "a tick, a number up to 4294967295,"
 END_DUE = "the end of the line"
 
@@ -64,10 +66,10 @@ WRONG_TEXTS = [
     (b"closed 2 halving # 1 10 cap 64\n", 1, MISSING, ("", "tmin, a number up to 4294967295,")),
     (b"closed 2 halving 1 10 64 cap\n", 1, UNKNOWN, ("64", "the word cap")),
     (b"closed 2 halving 1 10 cap 64 65\n", 1, TOO_MANY, ("65", END_DUE)),
-    (b"closed 256 halving 1 10 cap 64\n", 1, TOO_LARGE, ("256", "the number of parties, up to 255,")),
-    (b"closed 2 halving 1 4294967296 cap 64\n", 1, TOO_LARGE, ("4294967296", "tmax, a number up to 4294967295,")),
+    (b"closed 256 halving 1 10 cap 64\n", 1, TOO_LARGE, ("256", PARTIES_DUE)),
+    (b"closed 2 halving 1 4294967296 cap 64\n", 1, TOO_LARGE, ("4294967296", TMAX_DUE)),
     (b"closed 2 halving -1 10 cap 64\n", 1, NO_NUMBER, ("-1", "tmin, a number up to 4294967295,")),
-    (b"closed 2 halving 1 " + b"9" * 50 + b"x cap 64\n", 1, NO_NUMBER, ("9" * 40, "tmax, a number up to 4294967295,")),
+    (b"closed 2 halving 1 " + b"9" * 50 + b"x cap 64\n", 1, NO_NUMBER, ("9" * 40, TMAX_DUE)),
     (b"closed 2 halving 1 10 cap \xff\n", 1, NO_NUMBER, ("\xff", CAP_DUE)),
     (START + b"wait 4\n", 2, NO_NUMBER, ("wait", TICK_DUE)),
     (START + b"4\n", 2, MISSING, ("", ORDER_DUE)),
@@ -97,7 +99,8 @@ EVEN_TEXTS = [
 
 
 def run_whole(program, data=b"", *words):
-    return subprocess.run([BIN / program, *words], input=data, capture_output=True, timeout=SECONDS, check=False)
+    return subprocess.run([BIN / program, *words], input=data, capture_output=True,
+                          timeout=SECONDS, check=False)
 
 
 def first_difference(got, wanted):
@@ -115,7 +118,9 @@ def check_runfile(data):
     if got != wanted:
         return first_difference(got, wanted)
     if got.startswith(b"<?xml"):
-        return f"exit status {status}, and it tells {told!r}" if (status, told) != (0, b"") else check_file(got)
+        if (status, told) != (0, b""):
+            return f"exit status {status}, and it tells {told!r}"
+        return check_file(got)
     if (status, told) != (1, wanted):
         return f"no file was made: exit status {status}, and it tells {told!r}"
     return None

@@ -2,7 +2,7 @@
 """Holds tools/run_to_networkx.py to the model, and shows what readers of GraphML make of a run.
 
     python3 tests/viewers.py            # the tool, on the examples and on drawn files
-    python3 tests/viewers.py table      # what each reader that is installed shows of a nested and of a flat file
+    python3 tests/viewers.py table      # what each installed reader shows of both kinds of file
 
 The tool's run, its tables and its graph are compared with the model's log. What networkx and igraph
 read from the flat file is compared too, where they are installed; Python's XML reader always is.
@@ -38,7 +38,8 @@ def wanted_run(group, exported):
     """What an exported file holds of the model's log: happenings party by party, and then edges."""
     placed = [(place, h.tick, h.owner, h.word) for place, h in enumerate(group.log)]
     by_party = sorted(placed, key=lambda row: row[2])[:exported.happenings]
-    arrivals = [(group.log[h.link], h.link, h, place) for place, h in enumerate(group.log) if h.word == "arrived"]
+    arrivals = [(group.log[h.link], h.link, h, place) for place, h in enumerate(group.log)
+                if h.word == "arrived"]
     beats = [(link, sent.tick, sent.owner, place, h.tick, h.owner)
              for sent, link, h, place in arrivals[:exported.edges]]
     return sorted(by_party), beats
@@ -56,7 +57,8 @@ def as_words(rows):
 
 def check_tables(folder, run, happenings, beats):
     run_to_networkx.write_tables(run, folder)
-    if read_table(folder / "happenings.csv") != (run_to_networkx.HAPPENING_COLUMNS, as_words(happenings)):
+    wanted = run_to_networkx.HAPPENING_COLUMNS, as_words(happenings)
+    if read_table(folder / "happenings.csv") != wanted:
         return "the table of happenings is another"
     if read_table(folder / "beats.csv") != (run_to_networkx.BEAT_COLUMNS, as_words(beats)):
         return "the table of beats is another"
@@ -64,7 +66,8 @@ def check_tables(folder, run, happenings, beats):
 
 
 def nodes_wanted(happenings):
-    return {f"h{place}": {"tick": tick, "what": what, "party": party} for place, tick, party, what in happenings}
+    return {f"h{place}": {"tick": tick, "what": what, "party": party}
+            for place, tick, party, what in happenings}
 
 
 def edges_wanted(beats):
@@ -94,7 +97,8 @@ def check_flat(folder, run, happenings, beats):
     names = graph.vs["id"]
     nodes = {v["id"]: {"tick": v["tick"], "what": v["what"], "party": v["party"]} for v in graph.vs}
     edges = sorted((names[edge.source], names[edge.target]) for edge in graph.es)
-    return None if (nodes, edges) == (nodes_wanted(happenings), edges_wanted(beats)) else "igraph has another graph"
+    wanted = nodes_wanted(happenings), edges_wanted(beats)
+    return None if (nodes, edges) == wanted else "igraph has another graph"
 
 
 def check_run(folder, data, room):
@@ -110,11 +114,13 @@ def check_run(folder, data, room):
     happenings, beats = wanted_run(group, exported)
     if run_to_networkx.happening_rows(run) != happenings or run_to_networkx.beat_rows(run) != beats:
         return "it reads another run"
-    if ("cut" in run.notices, len(run.notices)) != (exported.cut, exported.cut + (fault is not None)):
+    notices = exported.cut + (fault is not None)
+    if ("cut" in run.notices, len(run.notices)) != (exported.cut, notices):
         return f"it reads the notices {run.notices}"
     wrong = check_tables(folder, run, happenings, beats)
     if wrong is None and is_there("networkx"):
-        wrong = check_graph(run_to_networkx.graph_of(run), happenings, beats) or check_flat(folder, run, happenings, beats)
+        wrong = (check_graph(run_to_networkx.graph_of(run), happenings, beats)
+                 or check_flat(folder, run, happenings, beats))
     return wrong
 
 
@@ -126,7 +132,8 @@ def inputs():
 
 
 def no_run_is_told():
-    for data in (b"", b"refused byte 0 number 15\n", b"<graphml><node/></graphml>", b'<node id="q0"></node>'):
+    for data in (b"", b"refused byte 0 number 15\n", b"<graphml><node/></graphml>",
+                 b'<node id="q0"></node>'):
         try:
             run_to_networkx.read_run(data)
         except run_to_networkx.NotARun:
@@ -160,7 +167,8 @@ def shown(nodes, with_tick, edges):
 
 def by_python(path):
     summary = check_graphml.check(pathlib.Path(path).read_bytes())
-    return shown(summary.parties + 1 + len(summary.happenings), len(summary.happenings), len(summary.edges))
+    happenings = len(summary.happenings)
+    return shown(summary.parties + 1 + happenings, happenings, len(summary.edges))
 
 
 def by_tool(path):
@@ -189,7 +197,8 @@ def by_xmllint(path):
 
 
 READERS = [("Python's XML reader", None, by_python), ("tools/run_to_networkx.py", None, by_tool),
-           ("networkx", "networkx", by_networkx), ("igraph", "igraph", by_igraph), ("xmllint", None, by_xmllint)]
+           ("networkx", "networkx", by_networkx), ("igraph", "igraph", by_igraph),
+           ("xmllint", None, by_xmllint)]
 
 
 def table():
@@ -203,7 +212,7 @@ def table():
             files.append(("flat", flat))
         for name, module, show in READERS:
             for kind, path in files:
-                if (module and not is_there(module)) or (name == "xmllint" and not shutil.which("xmllint")):
+                if not (shutil.which("xmllint") if name == "xmllint" else not module or is_there(module)):
                     print(f"{name}, {kind}: not installed here")
                 elif kind == "nested" or module or name == "xmllint":
                     print(f"{name}, {kind}: {show(path)}")

@@ -72,7 +72,8 @@ class Schedule:
         if status == 0:
             return printed
         found = SET_UP.fullmatch(complaint)
-        raise Refused(self.at(self.start_line()) + (because(int(found[1])) if found else complaint.strip()))
+        reason = because(int(found[1])) if found else complaint.strip()
+        raise Refused(self.at(self.start_line()) + reason)
 
 
 def play(path, out):
@@ -92,7 +93,8 @@ def play(path, out):
         raise Refused(f"{schedule.at(schedule.order_line(place))}{because(number)}\n"
                       f"{out} has the run up to there")
     cut = ", cut at 65,536 bytes" if summary.cut else ""
-    return f"{out}: parties {summary.parties}, happenings {len(summary.happenings)}, edges {len(summary.edges)}{cut}"
+    return (f"{out}: parties {summary.parties}, happenings {len(summary.happenings)}, "
+            f"edges {len(summary.edges)}{cut}")
 
 
 def main(words):
@@ -103,7 +105,7 @@ def main(words):
     out = path.with_suffix(".graphml")
     missing = [name for name in ("compose", "runfile") if not (BIN / name).exists()]
     if missing:
-        print(f"not built yet: {' and '.join(missing)}; make build proves and builds them", file=sys.stderr)
+        print(f"not built yet: {' and '.join(missing)}; make build does that", file=sys.stderr)
         return 2
     if out == path:
         print(f"{path} is a graph file and no schedule", file=sys.stderr)

@@ -4,8 +4,8 @@
 The file nests a graph in each party's node, which many readers of GraphML pass over. This one needs
 Python alone; networkx is wanted only for a graph.
 
-    python3 tools/run_to_networkx.py RUN.graphml csv FOLDER      # FOLDER/happenings.csv and FOLDER/beats.csv
-    python3 tools/run_to_networkx.py RUN.graphml flat FLAT.graphml   # one graph without nesting, by networkx
+    python3 tools/run_to_networkx.py RUN.graphml csv FOLDER          # happenings.csv and beats.csv
+    python3 tools/run_to_networkx.py RUN.graphml flat FLAT.graphml   # one graph, without nesting
 
 or, from a program with tools/ on its path:
 
@@ -79,10 +79,12 @@ class Reader:
             self.parties.append(number(name, "p"))
             return
         owner = number(self.nodes[-1], "p")
-        self.happenings[name] = Happening(number(name, "h"), int(self.data["t"]), owner, self.data["k"])
+        tick, what = int(self.data["t"]), self.data["k"]
+        self.happenings[name] = Happening(number(name, "h"), tick, owner, what)
 
     def run(self):
-        beats = [Beat(self.happenings[source], self.happenings[target]) for source, target in self.edges]
+        beats = [Beat(self.happenings[source], self.happenings[target])
+                 for source, target in self.edges]
         happenings = sorted(self.happenings.values(), key=lambda happening: happening.place)
         return Run(len(self.parties) - 1, happenings, beats, self.notices)
 
@@ -109,18 +111,20 @@ def read_run(data):
 
 
 def graph_of(run):
-    """A networkx graph: a node for each happening with its tick, word and party, an edge for each beat."""
+    """A networkx graph: nodes are happenings with tick, word and party, edges the beats."""
     import networkx
 
     graph = networkx.DiGraph()
     for happening in run.happenings:
-        graph.add_node(f"h{happening.place}", tick=happening.tick, what=happening.what, party=happening.party)
+        graph.add_node(f"h{happening.place}",
+                       tick=happening.tick, what=happening.what, party=happening.party)
     graph.add_edges_from((f"h{beat.sent.place}", f"h{beat.arrived.place}") for beat in run.beats)
     return graph
 
 
 HAPPENING_COLUMNS = ["place", "tick", "party", "what"]
-BEAT_COLUMNS = ["sent_place", "sent_tick", "from_party", "arrived_place", "arrived_tick", "to_party"]
+BEAT_COLUMNS = ["sent_place", "sent_tick", "from_party",
+                "arrived_place", "arrived_tick", "to_party"]
 
 
 def happening_rows(run):
@@ -169,7 +173,8 @@ def main(words):
     except ImportError:
         print("networkx is not installed, which a graph needs; csv needs nothing", file=sys.stderr)
         return 1
-    print(f"parties: {run.parties}, happenings: {len(run.happenings)}, beats that arrived: {len(run.beats)}")
+    print(f"parties: {run.parties}, happenings: {len(run.happenings)}, "
+          f"beats that arrived: {len(run.beats)}")
     for notice in run.notices:
         print(f"the file says: {notice}")
     return 0
