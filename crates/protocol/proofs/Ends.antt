@@ -24,12 +24,12 @@ use Rattle.protocol.proofs.Numbers.{lawful}
 use Rattle.protocol.proofs.Whole.{plays, opens}
 
 module _ (m : Terms) (kind : GroupKind) (law : LawfulTerms m kind) (q : Bool) (c : ℕ) (a l : ℕ) (p : Party) where
-  root_down : (r : Root) (how : Ending) (e : ℕ) (g : Stage) → Scene m c r a l → Kept m kind q c r a l p → p.note.roll ≡ On → p.own.standing ≡ Ended how e g → e + m.bears < c →
+  root_down : (r : Root) (how : Ending) (e : ℕ) (g : Stage) → Scene m c r a l → Kept m kind q c r a l p → p.note.roll ≡ On → p.own.standing ≡ Ended how e g → e + m.patience < c →
       (x : ℕ) × ((how : RootEnding) × (r ≡ Down how x))
   root_down Running how e g s k on end late = absurd (grind (arith, nat_tests))
   root_down (Down how' x) how e g s k on end late = (x, (how', refl))
 
-  party_down : (st : Standing) (r : ℕ) (how : RootEnding) → Kept m kind q c (Down how r) a l p → p.note.roll ≡ On → r + m.bears + m.tmin < c → p.own.standing ≡ st →
+  party_down : (st : Standing) (r : ℕ) (how : RootEnding) → Kept m kind q c (Down how r) a l p → p.note.roll ≡ On → r + m.patience + m.trip < c → p.own.standing ≡ st →
       (e : ℕ) × ((how : Ending) × (g : Stage) × (p.own.standing ≡ Ended how e g))
   party_down Outside r how k on late is = absurd (grind (arith, nat_tests))
   party_down (Live g) r how k on late is = absurd (grind (arith, nat_tests))

@@ -1,6 +1,6 @@
 -- One call keeps what holds of one party.
 use Rattle.std.proofs.Common.{◌≡◌, ℕ, suc, ◌+◌, ◌-◌, ◌%◌, ◌<◌, ◌≤◌, Bool, true, false, cond, eqb, leb, Some, None, Option, refl, ap, ◌∙◌, mod-eq_of_lt, arith}
-use native.Mathlib.Nat.{mod_self, mod-mod, add-mod, add-mod_right}
+use native.Mathlib.Nat.{mod-mod, add-mod, zero-mod}
 use Rattle.std.proofs.lemmas.Bool.Decides.{nat_tests}
 use Rattle.protocol.specs.declared.party.Party.{Party}
 use Rattle.protocol.specs.declared.party.Beat.{Beat}
@@ -23,11 +23,11 @@ use Rattle.protocol.specs.calls.Leave.{now_leaving}
 use Rattle.protocol.specs.calls.Tick.{missed, sends, missed_all, due, times, times_as, times_live, calls_in}
 use Rattle.protocol.specs.Kept.{Terms, LawfulTerms, Kept, Scene, Gone}
 
-whole_step : (c n : ℕ) → (c + n - c) % n ≡ 0
-whole_step c n = ap (λ x. x % n) (omega arith) ∙ mod_self n
+first_step : (x n : ℕ) → (x - x) % n ≡ 0
+first_step x n = ap (λ y. y % n) (omega arith) ∙ zero-mod n
 
-next_step : (c h n : ℕ) → h ≤ c → (c + n - h) % n ≡ (c - h) % n
-next_step c h n below = ap (λ x. x % n) (omega arith) ∙ add-mod_right (c - h) n
+next_step : (c h x n : ℕ) → (c + x - (h + x)) % n ≡ (c - h) % n
+next_step c h x n = ap (λ y. y % n) (omega arith)
 
 -- no two multiples of n are apart by less than n
 no_gap : (c h x n : ℕ) → h ≤ c → (c - h) % n ≡ 0 → (x - h) % n ≡ 0 → c < x → x < c + n → ⊥
@@ -36,6 +36,11 @@ no_gap c h x n below e f lo hi =
     ap (λ y. y % n) (omega arith) ∙ add-mod (c - h) (x - c) n ∙ ap (λ y. (y + (x - c) % n) % n) e ∙ ap (λ y. y % n) (omega arith) ∙ mod-mod (x - c) n in
     let g : (x - c) % n ≡ x - c = mod-eq_of_lt (omega arith) in
     omega arith
+
+-- nor is one after x - t and before x, where t is at most n
+no_call_between : (c h x t n : ℕ) → t ≤ n → h + t ≤ x → (x - (h + t)) % n ≡ 0 → (c - h) % n ≡ 0 → c < x → x < c + t → ⊥
+no_call_between c h x t n small below e f lo hi =
+    no_gap (x - t) h c n (omega arith) (ap (λ y. y % n) (omega arith) ∙ e) f (omega arith) (omega arith)
 
 gone : (o : Option Beat) → Gone o → o ≡ None
 gone None h = refl
@@ -73,16 +78,16 @@ module _ (m : Terms) (kind : GroupKind) (law : LawfulTerms m kind) (q : Bool) (c
     where
       go : (o : Option Beat) → p.legs.entry ≡ o → o ≡ None
       go None f = refl
-      go (Some b) f = let g = no_gap c p.own.since b.last m.tmin k.past whole in absurd (grind (arith, nat_tests))
+      go (Some b) f = let g = no_call_between c p.own.since b.last m.trip m.tmin law.trip_within in absurd (grind (arith, nat_tests))
 
-  -- a beat on a leg may still arrive, and not for more than tmin
-  last_as : (x y z : Bool) (b : Beat) → cond x p.legs.out (cond y p.legs.reply (cond z p.legs.entry None)) ≡ Some b → (c ≤ b.last) × (b.last ≤ c + m.tmin)
+  -- a beat on a leg may still arrive, and not for more than a trip
+  last_as : (x y z : Bool) (b : Beat) → cond x p.legs.out (cond y p.legs.reply (cond z p.legs.entry None)) ≡ Some b → (c ≤ b.last) × (b.last ≤ c + m.trip)
   last_as true y z b e = grind (arith, nat_tests)
   last_as false true z b e = grind (arith, nat_tests)
   last_as false false true b e = grind (arith, nat_tests)
   last_as false false false b e = absurd (grind arith)
 
-  pub last_ticks : (leg : ℕ) (b : Beat) → on_leg leg p ≡ Some b → (c ≤ b.last) × (b.last ≤ c + m.tmin)
+  pub last_ticks : (leg : ℕ) (b : Beat) → on_leg leg p ≡ Some b → (c ≤ b.last) × (b.last ≤ c + m.trip)
   last_ticks leg b e = last_as (eqb leg 1) (eqb leg 2) (eqb leg 3) b e
 
   pub no_beat_to_struck : p.note.roll ≡ Struck → p.legs.out ≡ None
@@ -135,8 +140,8 @@ module _ (m : Terms) (kind : GroupKind) (law : LawfulTerms m kind) (q : Bool) (c
   pub crash : Survives (crashes c p)
   crash = let f = law.part (suc p.note.misses) in grind (arith, nat_tests)
 
-  pub join : (place : ℕ) → (kind ≡ Closed → ⊥) → p.own.standing ≡ Outside → Keeps (joined c (c + m.tmin) place p)
-  join place wide e = let f = whole_step c m.tmin in grind (arith, nat_tests)
+  pub join : (place : ℕ) → (kind ≡ Closed → ⊥) → p.own.standing ≡ Outside → Keeps (joined c (c + m.trip) place p)
+  join place wide e = let f = first_step (c + m.trip) m.tmin in grind (arith, nat_tests)
 
   pub leave : (kind ≡ Closed → ⊥) → p.own.standing ≡ Live In → Keeps (now_leaving p)
   leave wide e = grind (arith, nat_tests)
@@ -147,7 +152,7 @@ module _ (m : Terms) (kind : GroupKind) (law : LawfulTerms m kind) (q : Bool) (c
   pub next_round :
       (l' place : ℕ) → r ≡ Running → c ≡ a + l → due c p ≡ false → m.tmin ≤ l' → l' ≤ m.tmax →
       (p.note.roll ≡ On → l' ≤ m.wait (missed p).note.misses) → ((missed p).note.misses < m.span) →
-      Kept m kind q c Running c l' (sends (c + m.tmin) place (missed p))
+      Kept m kind q c Running c l' (sends (c + m.trip) place (missed p))
   next_round l' place up end quiet lo hi w few =
       let f = law.part (suc (suc p.note.misses)) in
       let g = law.step (suc p.note.misses) in
@@ -157,7 +162,7 @@ module _ (m : Terms) (kind : GroupKind) (law : LawfulTerms m kind) (q : Bool) (c
   pub missed_fewer : r ≡ Running → missed_all m.span (missed p) ≡ false → (missed p).note.misses < m.span
   missed_fewer up h = grind (arith, nat_tests)
 
-  pub sent_quiet : (place : ℕ) → due c p ≡ false → due c (sends (c + m.tmin) place (missed p)) ≡ false
+  pub sent_quiet : (place : ℕ) → due c p ≡ false → due c (sends (c + m.trip) place (missed p)) ≡ false
   sent_quiet place h = grind (arith, nat_tests)
 
   pub trusted : q ≡ true → c ≡ a + l → due c p ≡ false → missed_all m.span (missed p) ≡ false
@@ -170,14 +175,14 @@ module _ (m : Terms) (kind : GroupKind) (law : LawfulTerms m kind) (q : Bool) (c
     idles : (st : Standing) → p.own.standing ≡ st → live st ≡ false → Later p
     idles st e h = grind (arith, nat_tests)
 
-    lives : (g : Stage) (ends calls : Bool) → p.own.standing ≡ Live g → leb m.bears (c - p.own.since) ≡ ends →
-        calls_in g m.tmin (c - p.own.since) ≡ calls → Later (times_live ends calls g c (c + m.tmin) place p)
+    lives : (g : Stage) (ends calls : Bool) → p.own.standing ≡ Live g → leb m.patience (c - p.own.since) ≡ ends →
+        calls_in g m.tmin (c - p.own.since) ≡ calls → Later (times_live ends calls g c (c + m.trip) place p)
     lives Joining true calls e f g = let t = law.part (suc p.note.misses) in grind (arith, nat_tests)
     lives In true calls e f g = let t = law.part (suc p.note.misses) in grind (arith, nat_tests)
     lives Leaving true calls e f g = let t = law.part (suc p.note.misses) in grind (arith, nat_tests)
     lives Joining false true e f g =
         let small : c - p.own.since < m.tmin → (c - p.own.since) % m.tmin ≡ c - p.own.since = mod-eq_of_lt in
-        let again = next_step c p.own.since m.tmin k.past in
+        let again = next_step c p.own.since m.trip m.tmin in
         grind (arith, nat_tests)
     lives Joining false false e f g = grind (arith, nat_tests)
     lives In false true e f g = grind (arith, nat_tests)
@@ -185,12 +190,12 @@ module _ (m : Terms) (kind : GroupKind) (law : LawfulTerms m kind) (q : Bool) (c
     lives Leaving false true e f g = grind (arith, nat_tests)
     lives Leaving false false e f g = grind (arith, nat_tests)
 
-    timed_as : (st : Standing) → p.own.standing ≡ st → Later (times_as st c m.bears m.tmin (c + m.tmin) place p)
+    timed_as : (st : Standing) → p.own.standing ≡ st → Later (times_as st c m.patience m.tmin (c + m.trip) place p)
     timed_as Outside e = idles Outside e refl
     timed_as (Live g) e = lives g _ _ e refl refl
     timed_as (Ended how at g) e = idles (Ended how at g) e refl
 
-    pub on_time : Later (times c m.bears m.tmin (c + m.tmin) place p)
+    pub on_time : Later (times c m.patience m.tmin (c + m.trip) place p)
     on_time = timed_as p.own.standing refl
 
 pub open_kept : (m : Terms) (kind : GroupKind) → LawfulTerms m kind → (q : Bool) → Kept m kind q 0 Running 0 m.tmax (fresh kind)

@@ -208,8 +208,8 @@ module _ (rules : Rules) (sound : Lawful rules.meaning) where
           Kept M kind q c s.table.root c next (get_or (after_verdict_of false rules (after_count n s)).table.parties k nobody)
           × (due c (get_or (after_verdict_of false rules (after_count n s)).table.parties k nobody) ≡ false) =
           λ k h. walks_each _ _ (λ p. p ≡ missed (get_or s.table.parties k nobody)) (λ p. Kept M kind q c s.table.root c next p × (due c p ≡ false))
-          (λ j log p e. subst (λ x. Kept M kind q c s.table.root c next (sends (c + μ.tmin) (length log) x) × (due c (sends (c + μ.tmin) (length log) x) ≡ false)) (sym e) (
-            subst (λ r. Kept M kind q c r c next (sends (c + μ.tmin) (length log) (missed (get_or s.table.parties k nobody)))) (sym up)
+          (λ j log p e. subst (λ x. Kept M kind q c s.table.root c next (sends (c + trip μ) (length log) x) × (due c (sends (c + trip μ) (length log) x) ≡ false)) (sym e) (
+            subst (λ r. Kept M kind q c r c next (sends (c + trip μ) (length log) (missed (get_or s.table.parties k nobody)))) (sym up)
                 (step.next_round M kind law q _ _ _ _ w.scene _ (w.each k h) next (length log) up end (quiet k h) next_low
                 (folds_falls (shorter μ.waits) shorter_falls 1 n μ.tmax ps) (λ e. next_wait k h (missed_roll (get_or s.table.parties k nobody) e)) (few k h)),
             step.sent_quiet M kind law q _ _ _ _ w.scene _ (w.each k h) (length log) (quiet k h),

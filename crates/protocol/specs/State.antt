@@ -1,5 +1,5 @@
 -- What a call changes: the table of the group and its log.
-use Rattle.std.specs.Prelude.{ℕ, ◌+◌, ◌-◌, Bool, true, false, List, [], ◌∷◌, ◌++◌, length, replicate, slice_index_or, slice_set}
+use Rattle.std.specs.Prelude.{ℕ, ◌-◌, Bool, true, false, List, [], ◌∷◌, ◌++◌, length, replicate, slice_index_or, slice_set}
 use Rattle.protocol.specs.declared.party.Party.{Party}
 use Rattle.protocol.specs.declared.table.Root.{Root}
 use Rattle.protocol.specs.declared.table.Root.TheVariants.{Running, Down}

@@ -44,8 +44,6 @@ tick_number plan room s =
     asks (nat_lt s.table.clock 4000000000) 10
     (asks (not (any (due s.table.clock) plan.n s.table.parties)) 11 (log_asks (2 * plan.n) room s))
 
-
-
 -- a round ends: a party on the roll has missed none when it was heard, otherwise one more
 abbrev pub missed_as : Roll → Note → Note
 missed_as On n = noted On n.heard (cond n.heard 0 (n.misses + 1))
@@ -227,4 +225,4 @@ LegsFreeAtTick rules s =
     let t = s.table in let p = the i t in
     (round_ends t ≡ true → p.note.roll ≡ On → p.legs.out ≡ None)
     × (p.own.standing ≡ Live Joining → p.own.since < t.clock →
-      (t.clock - p.own.since) % rules.meaning.tmin ≡ 0 → p.legs.entry ≡ None)
+    (t.clock - p.own.since) % rules.meaning.tmin ≡ 0 → p.legs.entry ≡ None)
