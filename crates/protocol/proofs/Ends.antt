@@ -21,7 +21,7 @@ use Rattle.protocol.specs.Rules.{Rules}
 use Rattle.protocol.specs.Laws.{RootFollows, PartiesFollow, StopsForCause, NobodyStopped, RunsEndTogetherForCause}
 use Rattle.protocol.specs.Kept.{Terms, LawfulTerms, Kept, Scene, Whole, terms}
 use Rattle.protocol.proofs.Numbers.{lawful}
-use Rattle.protocol.proofs.Whole.{plays, opens}
+use Rattle.protocol.proofs.Whole.{run_whole}
 
 module _ (m : Terms) (kind : GroupKind) (law : LawfulTerms m kind) (q : Bool) (c : ℕ) (a l : ℕ) (p : Party) where
   root_down : (r : Root) (how : Ending) (e : ℕ) (g : Stage) → Scene m c r a l → Kept m kind q c r a l p → p.note.roll ≡ On → p.own.standing ≡ Ended how e g → e + m.patience < c →
@@ -76,7 +76,7 @@ module _ (rules : Rules) (sound : Lawful rules.meaning) where
 pub laws : RunsEndTogetherForCause
 laws rules sound calls =
     let s = state_after rules calls (opening rules) in
-    let w = plays rules sound true calls (opening rules) (opens rules sound true) in
+    let w = run_whole rules sound calls in
     record {
       root_follows = root_follows rules sound _ s w;
       parties_follow = parties_follow rules sound _ s w;

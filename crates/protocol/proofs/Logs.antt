@@ -24,16 +24,17 @@ use Rattle.protocol.specs.Walk.{folds, walks}
 use Rattle.protocol.specs.Party.{nobody, fresh, on_leg, off_leg, off_out, off_reply, off_entry, on_roll, live}
 use Rattle.protocol.specs.calls.Deliver.{arrives, hears_as, heeds, answer_log, after_arrival}
 use Rattle.protocol.specs.calls.Join.{joined, after_join}
-use Rattle.protocol.specs.calls.Tick.{missed, sends, sends_as, missed_all, times, times_as, times_live, calls_in, any, shortest, after_count, send_log, after_sending, after_stop, after_start, after_verdict_of, after_round_if, after_round, round_ends, live_word, tells_if, timer_log, after_timers, after_clock, after_tick}
+use Rattle.protocol.specs.calls.Tick.{missed, sends, sends_as, missed_all, times, times_as, times_live, calls_in, any, shortest, after_count, send_log, after_sending, after_stop, after_start, after_verdict_of, after_round_if, after_round, round_ends, live_word, tells_if, timer_log, after_timers, after_tick}
 use Rattle.protocol.specs.State.{State, the, happening, with_record, with_linked, runs, opening}
 use Rattle.protocol.specs.calls.Lose.{sender, after_loss_of}
 use Rattle.protocol.specs.calls.Crash.{after_crash}
 use Rattle.protocol.specs.calls.Leave.{after_leave}
-use Rattle.protocol.specs.Runs.{number, effect, unless, perform, state_after}
+use Rattle.protocol.specs.Runs.{number, effect, perform, state_after, run_state}
 use Rattle.protocol.specs.Beats.{is_arrival, is_loss, settles, nothing, happening_at, SentBy, OtherEnd, Linked, LossesLinked, SettledOnce, Unsettled, Edge, edge, edges, PutBy}
 use Rattle.protocol.specs.Order.{InOrder}
 use Rattle.protocol.proofs.Onward.{Onward, stay, further, told, arrived, edges_same, sent_push, keeps_push, every_push, order_push, linked_push, losses_push, onward_linked, onward_losses, folds_onward, folds_between}
 use Rattle.protocol.proofs.Legs.{New, Turned, off_others, off_gone, stays, put_out, put_reply, put_entry}
+use Rattle.protocol.proofs.Runs.{every_run, granted_effect}
 use Rattle.protocol.proofs.Asked.{asked_party, asked_low}
 use Rattle.protocol.proofs.Lifts.{set_each, set_two, walks_long, walks_at, folds_next}
 
@@ -494,10 +495,6 @@ module _ (rules : Rules) where
   refused (Join i) k s = refl
   refused (Leave i) k s = refl
 
-  performs : (o : Moment) (call : Call) (s : State) (k : ℕ) → number rules call s ≡ k → Holds o rules s → Next o rules s (unless k s (effect rules call s)) (delivery call k s)
-  performs o call s zero e t = does o call s e t
-  performs o call s (suc k) e t = (t, sym (append-nil (edges 0 s.log)) ∙ ap (λ es. edges 0 s.log ++ es) (sym (refused call k s)))
-
   -- what holds since any moment holds since the present one
   holds_now : (o : Moment) (s : State) → Holds o rules s → Holds (at s) rules s
   holds_now o s t = record {
@@ -513,58 +510,23 @@ module _ (rules : Rules) where
     long = t.long;
   }
 
-  abbrev Now : State → Type 0
+  abbrev pub Now : State → Type 0
   Now s = Holds (at s) rules s
 
-  plays : (calls : List Call) (s : State) → Now s → let s' = state_after rules calls s in Now s' × (edges 0 s'.log ≡ edges 0 s.log ++ deliveries rules calls s)
-  plays [] s t = (t, sym (append-nil (edges 0 s.log)))
-  plays (call ∷ calls) s t =
-      let k = number rules call s in
-      let s' = perform rules call s in
-      let a = performs (at s) call s k refl t in
-      let b = plays calls s' (holds_now (at s) s' a.0) in
-      (b.0, b.1 ∙ ap (λ es. es ++ deliveries rules calls s') a.1 ∙ append_assoc (edges 0 s.log) (delivery call k s) (deliveries rules calls s'))
+  pub deliveries_append : (xs ys : List Call) (s : State) → deliveries rules (xs ++ ys) s ≡ deliveries rules xs s ++ deliveries rules ys (state_after rules xs s)
+  deliveries_append [] ys s = refl
+  deliveries_append (x ∷ xs) ys s =
+      let d = delivery x (number rules x s) s in
+      let s' = perform rules x s in
+      ap (λ es. d ++ es) (deliveries_append xs ys s') ∙ sym (append_assoc d (deliveries rules xs s') (deliveries rules ys (state_after rules xs s')))
 
-  -- a beat on a leg stood there before the calls, or one of them put it there
-  pub puts : (calls : List Call) (s : State) (i leg : ℕ) (b : Beat) → Now s → 1 ≤ i → i ≤ rules.plan.n → on_leg leg (the i (state_after rules calls s).table) ≡ Some b →
-      (on_leg leg (the i s.table) ≡ Some b) ⊎ PutBy rules s calls i leg b
-  puts [] s i leg b t lo hi e = inl e
-  puts (call ∷ calls) s i leg b t lo hi e =
-      elim (puts calls s' i leg b t' lo hi e) [
-        | inl old ↦ first old
-        | inr after_clock ↦ inr (record {
-          before = call ∷ after_clock.before;
-          call = after_clock.call;
-          after = after_clock.after;
-          among = ap (λ cs. call ∷ cs) after_clock.among;
-          not_yet = after_clock.not_yet;
-          written = after_clock.written;
-          put = after_clock.put;
-        })
-      ]
-    where
-      s' : State
-      s' = perform rules call s
-
-      made : Next (at s) rules s s' (delivery call (number rules call s) s)
-      made = performs (at s) call s (number rules call s) refl t
-
-      t' : Now s'
-      t' = holds_now (at s) s' made.0
-
-      first : on_leg leg (the i s'.table) ≡ Some b → (on_leg leg (the i s.table) ≡ Some b) ⊎ PutBy rules s (call ∷ calls) i leg b
-      first now = elim (made.0.older (i - 1) leg b (omega arith) now) [
-        | inl old ↦ inl old
-        | inr fresh ↦ inr (record {
-          before = [];
-          call = call;
-          after = calls;
-          among = refl;
-          not_yet = fresh;
-          written = held_at (at s') rules s' i leg b lo hi t' now;
-          put = now;
-        })
-      ]
+  -- one call more
+  deliveries_more : (calls : List Call) (call : Call) (k : ℕ) (s : State) → number rules call (state_after rules calls s) ≡ k →
+      deliveries rules (calls ++ call ∷ []) s ≡ deliveries rules calls s ++ delivery call k (state_after rules calls s)
+  deliveries_more calls call k s z =
+      let s' = state_after rules calls s in
+      deliveries_append calls (call ∷ []) s
+      ∙ ap (λ es. deliveries rules calls s ++ es) (append-nil (delivery call (number rules call s') s') ∙ ap (λ k. delivery call k s') z)
 
   -- a new group has nothing on its legs
 
@@ -575,6 +537,13 @@ module _ (rules : Rules) where
   empty k leg b h e =
       bare rules.plan.kind (eqb leg 1) (eqb leg 2) (eqb leg 3) b
       (subst (λ p. on_leg leg p ≡ Some b) (get_or-replicate 32 k (fresh rules.plan.kind) nobody (omega (arith, rules.plan.few))) e)
+
+  -- what holds after the calls of a run
+  pub record Logged (calls : List Call) (s : State) : Type 0 where
+    pub told : Now s
+    pub edges : edges 0 s.log ≡ deliveries rules calls (opening rules)
+    -- a beat on a leg was put there by one of the calls
+    pub put : (i leg : ℕ) (b : Beat) → 1 ≤ i → i ≤ rules.plan.n → on_leg leg (the i s.table) ≡ Some b → PutBy rules (opening rules) calls i leg b
 
   opens : Now (opening rules)
   opens = record {
@@ -590,17 +559,60 @@ module _ (rules : Rules) where
     long = omega (arith, rules.plan.few);
   }
 
-  -- what holds after every run, and the edges of its log
-  pub after : (calls : List Call) → let s = state_after rules calls (opening rules) in Now s × (edges 0 s.log ≡ deliveries rules calls (opening rules))
-  after calls = plays calls (opening rules) opens
+  -- a beat put there before one call more
+  put_before : (calls : List Call) (call : Call) (i leg : ℕ) (b : Beat) → PutBy rules (opening rules) calls i leg b → PutBy rules (opening rules) (calls ++ call ∷ []) i leg b
+  put_before calls call i leg b p = record {
+    before = p.before;
+    call = p.call;
+    after = p.after ++ call ∷ [];
+    among = ap (λ cs. cs ++ call ∷ []) p.among ∙ append_assoc p.before (p.call ∷ p.after) (call ∷ []);
+    not_yet = p.not_yet;
+    written = p.written;
+    put = p.put;
+  }
 
-  -- a beat on a leg of a new group's run was put there by one of its calls
-  pub put_by : (calls : List Call) (i leg : ℕ) (b : Beat) → 1 ≤ i → i ≤ rules.plan.n → on_leg leg (the i (state_after rules calls (opening rules)).table) ≡ Some b →
-      PutBy rules (opening rules) calls i leg b
-  put_by calls i leg b lo hi e =
-      elim (puts calls (opening rules) i leg b opens lo hi e) [ inl old ↦ absurd (empty (i - 1) leg b (omega arith) old) | inr put ↦ put ]
+  module _ (before : List Call) (call : Call) where
+    abbrev s : State
+    s = run_state rules before
 
-  -- and the log holds its sending
+    abbrev s' : State
+    s' = effect rules call s
+
+    granted : number rules call s ≡ 0 → Logged before s → Logged (before ++ call ∷ []) s'
+    granted z h =
+        let a = does (at s) call s z h.told in
+        let t = holds_now (at s) s' a.0 in
+        record {
+          told = t;
+          edges = a.1 ∙ ap (λ es. es ++ delivery call 0 s) h.edges ∙ sym (deliveries_more before call 0 (opening rules) z);
+          put = λ i leg b lo hi e. elim (a.0.older (i - 1) leg b (omega arith) e) [
+            | inl old ↦ put_before before call i leg b (h.put i leg b lo hi old)
+            | inr fresh ↦ record {
+              before = before;
+              call = call;
+              after = [];
+              among = refl;
+              not_yet = fresh;
+              written = subst (λ (x : State). SentBy x.log (sender leg i) b.place) (sym (granted_effect rules call s z)) (held_at (at s') rules s' i leg b lo hi t e);
+              put = subst (λ (x : State). on_leg leg (the i x.table) ≡ Some b) (sym (granted_effect rules call s z)) e;
+            }
+          ];
+        }
+
+    not_granted : (k : ℕ) → number rules call s ≡ suc k → Logged before s → Logged (before ++ call ∷ []) s
+    not_granted k z h = record {
+      told = h.told;
+      edges = h.edges ∙ sym (append-nil (deliveries rules before (opening rules)))
+          ∙ ap (λ es. deliveries rules before (opening rules) ++ es) (sym (refused call k s)) ∙ sym (deliveries_more before call (suc k) (opening rules) z);
+      put = λ i leg b lo hi e. put_before before call i leg b (h.put i leg b lo hi e);
+    }
+
+  pub run_logged : (calls : List Call) → Logged calls (run_state rules calls)
+  run_logged =
+      every_run rules (opening rules) Logged granted not_granted
+      (record { told = opens; edges = refl; put = λ i leg b lo hi e. absurd (empty (i - 1) leg b (omega arith) e) })
+
+  -- the log holds the sending of a beat on a leg
   pub held : (calls : List Call) (i leg : ℕ) (b : Beat) → 1 ≤ i → i ≤ rules.plan.n → let s = state_after rules calls (opening rules) in
       on_leg leg (the i s.table) ≡ Some b → SentBy s.log (sender leg i) b.place
-  held calls i leg b lo hi e = let s = state_after rules calls (opening rules) in held_at (at s) rules s i leg b lo hi (after calls).0 e
+  held calls i leg b lo hi e = let s = run_state rules calls in held_at (at s) rules s i leg b lo hi (run_logged calls).told e

@@ -26,12 +26,13 @@ use Rattle.protocol.specs.State.{State, the, happening, with_record, with_linked
 use Rattle.protocol.specs.calls.Lose.{sender, after_loss_of}
 use Rattle.protocol.specs.calls.Deliver.{answer_log, arrival_log, after_arrival}
 use Rattle.protocol.specs.calls.Crash.{after_crash}
-use Rattle.protocol.specs.Runs.{number, effect, unless, perform, state_after}
+use Rattle.protocol.specs.Runs.{number, effect, state_after}
 use Rattle.protocol.specs.Beats.{settles, nothing, happening_at, SentBy}
 use Rattle.protocol.specs.Order.{OwnedUpTo}
 use Rattle.protocol.specs.Deliveries.{receiver, ArrivedBy}
 use Rattle.protocol.specs.Sendings.{UnderWay}
 use Rattle.protocol.proofs.Clock.{rounded_clock}
+use Rattle.protocol.proofs.Runs.{every_state}
 use Rattle.protocol.proofs.Asked.{asked_party, asked_low}
 
 clash : (b : Bool) → b ≡ true → b ≡ false → ⊥
@@ -234,17 +235,13 @@ module _ (rules : Rules) where
       further _ _ _ _ (writes rules _ c s.log i _ _ a.1 refl) (writes rules _ c _ i _ _ a.1 refl)
   does (Leave i) s e = writes rules _ s.table.clock s.log i _ _ (asked_party rules.plan.n i _ e).1 refl
 
-  performs_as : (call : Call) (s : State) (k : ℕ) → number rules call s ≡ k → Grown (OwnedBy rules.plan.n) s.log (unless k s (effect rules call s)).log
-  performs_as call s zero e =
-      weaken (Wrote rules.plan.n s.table.clock (UnderWay rules.plan.n s.table)) (OwnedBy rules.plan.n) s.log (effect rules call s).log (λ h w. w.0) (does call s e)
-  performs_as call s (suc k) e = stays _ s.log
-
-  pub performs : (call : Call) (s : State) → Grown (OwnedBy rules.plan.n) s.log (perform rules call s).log
-  performs call s = performs_as call s (number rules call s) refl
-
-  pub plays : (calls : List Call) (s : State) → Grown (OwnedBy rules.plan.n) s.log (state_after rules calls s).log
-  plays [] s = stays _ s.log
-  plays (call ∷ calls) s = further _ _ _ _ (performs call s) (plays calls (perform rules call s))
+  -- the log of a run only grows, by records of the root or a party of the plan
+  pub grows : (s₀ : State) (calls : List Call) → Grown (OwnedBy rules.plan.n) s₀.log (state_after rules calls s₀).log
+  grows s₀ =
+      every_state rules s₀ (λ s. Grown (OwnedBy rules.plan.n) s₀.log s.log)
+      (λ call s z g. further _ _ _ _ g
+      (weaken (Wrote rules.plan.n s.table.clock (UnderWay rules.plan.n s.table)) (OwnedBy rules.plan.n) s.log (effect rules call s).log (λ h w. w.0) (does call s z)))
+      (stays _ s₀.log)
 
   pub owned : (calls : List Call) → OwnedUpTo rules.plan.n (state_after rules calls (opening rules)).log
-  owned calls k h = (plays calls (opening rules)).fresh k (omega arith) h
+  owned calls k h = (grows (opening rules) calls).fresh k (omega arith) h

@@ -1,5 +1,5 @@
 -- A run step by step, and its promise.
-use Rattle.std.proofs.Common.{◌≡◌, ℕ, zero, suc, List, [], ◌∷◌, ◌++◌, map, get_or, set, sym, refl, ap, ◌∙◌, subst, subst₂}
+use Rattle.std.proofs.Common.{◌≡◌, ℕ, zero, suc, List, [], ◌∷◌, ◌++◌, map, get_or, set, sym, refl, ap, subst, subst₂}
 use Rattle.protocol.specs.declared.call.Step.{Step}
 use Rattle.pace.specs.Meaning.{Lawful}
 use Rattle.protocol.specs.Rules.{Rules}
@@ -32,16 +32,15 @@ map_set f (x ∷ xs) zero y d e = ap (λ z. z ∷ map f xs) e
 map_set f (x ∷ xs) (suc i) y d e = ap (λ zs. f x ∷ zs) (map_set f xs i y d e)
 
 module _ (rules : Rules) where
-  -- one step more
-  pub more : (s : State) (xs : List Step) (s' : State) (x : Step) (s'' : State) → Rehearsed rules s xs s' → number_told x.answer ≡ number rules x.call s' →
-      s'' ≡ perform rules x.call s' → Rehearsed rules s (xs ++ (x ∷ [])) s''
-  more s [] s' x s'' h a e = (subst (λ t. number_told x.answer ≡ number rules x.call t) h a, e ∙ ap (perform rules x.call) h)
-  more s (y ∷ ys) s' x s'' h a e = (h.0, more (perform rules y.call s) ys s' x s'' h.1 a e)
-
   -- some steps and then others
   pub then : (s : State) (xs : List Step) (s' : State) (ys : List Step) (s'' : State) → Rehearsed rules s xs s' → Rehearsed rules s' ys s'' → Rehearsed rules s (xs ++ ys) s''
   then s [] s' ys s'' h k = subst (λ t. Rehearsed rules t ys s'') h k
   then s (x ∷ xs) s' ys s'' h k = (h.0, then (perform rules x.call s) xs s' ys s'' h.1 k)
+
+  -- one step more
+  pub more : (s : State) (xs : List Step) (s' : State) (x : Step) (s'' : State) → Rehearsed rules s xs s' → number_told x.answer ≡ number rules x.call s' →
+      s'' ≡ perform rules x.call s' → Rehearsed rules s (xs ++ (x ∷ [])) s''
+  more s xs s' x s'' h a e = then s xs s' (x ∷ []) s'' h (a, e)
 
   -- the promise of a run, over its steps
   pub keeps : Lawful rules.meaning → (xs : List Step) (s' : State) → Rehearsed rules (opening rules) xs s' → KeepsTheRules rules xs s'

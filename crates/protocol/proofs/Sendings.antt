@@ -1,6 +1,6 @@
 -- No beat vanishes: each sending has arrived, is lost or is under way.
 use Rattle.std.proofs.Common.{◌≡◌, ℕ, zero, suc, ◌+◌, ◌-◌, ◌%◌, ◌<◌, ◌≤◌, Bool, true, false, cond, eqb, leb, ◌⊎◌, List, [], ◌∷◌, ◌++◌, length, get_or, set, Some, None, Option, unwrap_or, sym, refl, ap, ◌∙◌, subst, inl, inr, arith}
-use Rattle.std.proofs.lemmas.List.{append-nil, append_assoc, length_push, get_or_append_left, get_or_push}
+use Rattle.std.proofs.lemmas.List.{length_push, get_or_append_left, get_or_push}
 use Rattle.std.proofs.lemmas.Bool.Decides.{nat_tests}
 use Rattle.protocol.specs.declared.party.Party.{Party}
 use Rattle.protocol.specs.declared.party.Beat.{Beat}
@@ -27,14 +27,14 @@ use Rattle.protocol.specs.calls.Crash.{crashes, after_crash}
 use Rattle.protocol.specs.calls.Tick.{missed, sends, sends_as, missed_all, times, times_as, times_live, calls_in, any, shortest, after_count, send_log, after_sending, after_start, after_verdict_of, after_round_if, after_round, round_ends, live_word, tells_if, timer_log, after_timers}
 use Rattle.protocol.specs.State.{State, the, happening, with_record, with_linked, runs, opening}
 use Rattle.protocol.specs.calls.Lose.{sender, after_loss_of}
-use Rattle.protocol.specs.Runs.{number, effect, unless, run_state}
+use Rattle.protocol.specs.Runs.{number, effect, run_state}
 use Rattle.protocol.specs.Beats.{settles, nothing, happening_at, FreeFor}
 use Rattle.protocol.specs.Sendings.{SettledAt, UnderWay, RunsLetNoBeatVanish}
 use Rattle.protocol.proofs.Asked.{asked_party, asked_low}
 use Rattle.protocol.proofs.Lifts.{set_each, walks_long, walks_each}
 use Rattle.protocol.proofs.Onward.{every_push}
-use Rattle.protocol.proofs.Logs.{after as logged_after}
-use Rattle.protocol.proofs.Runs.{played_snoc}
+use Rattle.protocol.proofs.Logs.{run_logged}
+use Rattle.protocol.proofs.Runs.{every_run}
 use Rattle.protocol.proofs.Whole.{free_legs}
 use Rattle.protocol.proofs.Clock.{rounded_clock}
 
@@ -484,19 +484,13 @@ module _ (rules : Rules) where
   does (Join i) s z free long a = let p = asked_party rules.plan.n i _ z in joins_one rules i s p.0 p.1 free long a
   does (Leave i) s z free long a = let p = asked_party rules.plan.n i _ z in leaves_one rules i s p.0 p.1 long a
 
-  performs : (call : Call) (s : State) (k : ℕ) → number rules call s ≡ k → (k ≡ 0 → FreeFor rules call s) → Long rules s → All rules s →
-      All rules (unless k s (effect rules call s))
-  performs call s zero z free long a = does call s z (free refl) long a
-  performs call s (suc k) z free long a = a
-
-  module _ (sound : Lawful rules.meaning) where
-    plays : (before later : List Call) → All rules (run_state rules before) → All rules (run_state rules (before ++ later))
-    plays before [] a = subst (λ calls. All rules (run_state rules calls)) (sym (append-nil before)) a
-    plays before (call ∷ later) a =
-        let s = run_state rules before in
-        let next = performs call s (number rules call s) refl (free_legs rules sound before call) (logged_after rules before).0.long a in
-        subst (λ calls. All rules (run_state rules calls)) (append_assoc before (call ∷ []) later)
-        (plays (before ++ call ∷ []) later (subst (All rules) (sym (played_snoc rules before call (opening rules))) next))
+  -- of every run
+  run_accounted : Lawful rules.meaning → (calls : List Call) → All rules (run_state rules calls)
+  run_accounted sound =
+      every_run rules (opening rules) (λ _ s. All rules s)
+      (λ before call z a. does call (run_state rules before) z (free_legs rules sound before call z) (run_logged rules before).told.long a)
+      (λ before call k z a. a)
+      (λ k below. absurd (omega arith))
 
 under_way : (n : ℕ) (s : State) (k : ℕ) → HasOne n s.table.parties k → UnderWay n s.table k
 under_way n s k h = record {
@@ -512,4 +506,4 @@ pub no_beat_vanishes : RunsLetNoBeatVanish
 no_beat_vanishes rules sound calls =
     let s = run_state rules calls in
     weaken s.log (HasOne rules.plan.n s.table.parties) (UnderWay rules.plan.n s.table) (under_way rules.plan.n s)
-    (plays rules sound [] calls (λ k below. absurd (omega arith)))
+    (run_accounted rules sound calls)

@@ -14,9 +14,10 @@ use Rattle.protocol.specs.Rules.{Rules}
 use Rattle.protocol.specs.State.{State, the, opening}
 use Rattle.protocol.specs.calls.Lose.{after_loss_of}
 use Rattle.protocol.specs.calls.Crash.{after_crash}
-use Rattle.protocol.specs.Runs.{number, effect, unless, perform, state_after}
+use Rattle.protocol.specs.Runs.{effect, run_state}
 use Rattle.protocol.specs.Strikes.{IsStruck, RunsStrikeForGood}
 use Rattle.protocol.proofs.Lifts.{set_each}
+use Rattle.protocol.proofs.Runs.{every_state, run_append}
 use Rattle.protocol.proofs.Whole.{no_beat_of_the_root}
 
 abbrev Is : Party → Type 0
@@ -95,18 +96,14 @@ module _ (i : ℕ) where
     does (Join j) s e = changed j _ s.table.parties (λ f. f) e
     does (Leave j) s e = changed j _ s.table.parties (λ f. f) e
 
-    performs : (call : Call) (s : State) (k : ℕ) → IsStruck i s → IsStruck i (unless k s (effect rules call s))
-    performs call s zero e = does call s e
-    performs call s (suc k) e = e
-
     -- after some calls, and then others
-    plays_on : (before later : List Call) (s : State) → IsStruck i (state_after rules before s) → IsStruck i (state_after rules (before ++ later) s)
-    plays_on [] [] s e = e
-    plays_on [] (call ∷ later) s e = plays_on [] later (perform rules call s) (performs call s (number rules call s) e)
-    plays_on (call ∷ before) later s e = plays_on before later (perform rules call s) e
+    run_struck : (before later : List Call) → IsStruck i (run_state rules before) → IsStruck i (run_state rules (before ++ later))
+    run_struck before later e =
+        subst (IsStruck i) (sym (run_append rules before later (opening rules)))
+        (every_state rules (run_state rules before) (IsStruck i) (λ call s z e. does call s e) e later)
 
 pub strikes_for_good : RunsStrikeForGood
 strikes_for_good rules sound calls = record {
-  stays_struck = λ before later after i among lo hi e. plays_on i rules before later (opening rules) e;
+  stays_struck = λ before later after i among lo hi e. run_struck i rules before later e;
   gets_no_beat = λ before after i among lo hi e. no_beat_of_the_root rules sound before i lo hi e;
 }

@@ -30,8 +30,9 @@ use Rattle.protocol.specs.calls.Tick.{missed, sends, missed_all, times, times_as
 use Rattle.protocol.specs.State.{State, the, happening, with_record, with_linked, runs, opening}
 use Rattle.protocol.specs.calls.Lose.{sender, after_loss_of}
 use Rattle.protocol.specs.Questions.{asks}
-use Rattle.protocol.specs.Runs.{number, effect, unless, perform, state_after}
+use Rattle.protocol.specs.Runs.{number, effect}
 use Rattle.protocol.specs.Told.{read, Account, account_of, first_account, tells_as, told_of, root_as, root_told, TellsTheGroup, RunsTellTheirGroup}
+use Rattle.protocol.proofs.Runs.{every_state}
 use Rattle.protocol.proofs.Asked.{asked_party}
 use Rattle.protocol.proofs.Lifts.{walks_long, walks_each}
 
@@ -466,19 +467,14 @@ module _ (rules : Rules) where
     does_party (Join j) s z long e = joins_one rules i lo hi j s (asked_party rules.plan.n j _ z).0 long e
     does_party (Leave j) s z long e = leaves_one rules i lo hi j s (asked_party rules.plan.n j _ z).0 long e
 
-  performs : (call : Call) (s : State) (k : ℕ) → number rules call s ≡ k → AllTold s → AllTold (unless k s (effect rules call s))
-  performs call s zero z w = record {
+  does : (call : Call) (s : State) → number rules call s ≡ 0 → AllTold s → AllTold (effect rules call s)
+  does call s z w = record {
     long = does_long call s w.long;
     tells = record {
       party = λ i lo hi. does_party i lo hi call s z w.long (w.tells.party i lo hi);
       root = does_root call s z w.tells.root;
     };
   }
-  performs call s (suc k) z w = w
-
-  plays : (calls : List Call) (s : State) → AllTold s → AllTold (state_after rules calls s)
-  plays [] s w = w
-  plays (call ∷ calls) s w = plays calls (perform rules call s) (performs call s (number rules call s) refl w)
 
   fresh_told : (kind : GroupKind) → first_account kind ≡ account_of (fresh kind)
   fresh_told kind = grind arith
@@ -493,4 +489,4 @@ module _ (rules : Rules) where
   }
 
 pub tells_the_group : RunsTellTheirGroup
-tells_the_group rules sound calls = (plays rules calls (opening rules) (opens rules)).tells
+tells_the_group rules sound calls = (every_state rules (opening rules) (AllTold rules) (does rules) (opens rules) calls).tells

@@ -1,7 +1,6 @@
 -- A beat is under way for at most a trip.
 use Rattle.std.proofs.Common.{◌≡◌, ℕ, zero, suc, ◌+◌, ◌-◌, ◌<◌, ◌≤◌, Bool, true, false, cond, ◌||◌, eqb, leb, ◌⊎◌, List, [], ◌∷◌, ◌++◌, length, get_or, Some, None, unwrap_or, sym, refl, ap, ◌∙◌, subst, inl, inr, arith}
 use native.Mathlib.Decide.{dec_lt}
-use Rattle.std.proofs.lemmas.List.{append-nil, append_assoc}
 use Rattle.protocol.specs.declared.party.Party.{Party}
 use Rattle.protocol.specs.declared.party.Beat.{Beat}
 use Rattle.protocol.specs.declared.party.Stage.{Stage}
@@ -25,10 +24,10 @@ use Rattle.protocol.specs.Sendings.{UnderWay}
 use Rattle.protocol.specs.Trips.{tick_at, RunsBringBeatsInTime}
 use Rattle.protocol.proofs.Clock.{rounded_clock}
 use Rattle.protocol.proofs.Lifts.{walks_long, walks_each}
-use Rattle.protocol.proofs.Logs.{after as logged_after, put_by, held}
-use Rattle.protocol.proofs.Runs.{played_snoc, played_cut}
+use Rattle.protocol.proofs.Logs.{run_logged, held}
+use Rattle.protocol.proofs.Runs.{every_run, run_append, granted_effect}
 use Rattle.protocol.proofs.Told.{rounds_long}
-use Rattle.protocol.proofs.Records.{Grown, Wrote, does as writes, plays as grows}
+use Rattle.protocol.proofs.Records.{Grown, Wrote, does as writes, grows}
 use Rattle.protocol.proofs.Ticks.{done_clock}
 use Rattle.protocol.proofs.Whole.{last_ticks}
 
@@ -103,16 +102,13 @@ module _ (rules : Rules) (k : ℕ) (h : k < rules.plan.n) (p₀ : Party) (c : �
       1 n s.log s.table.parties nobody k h long f
 
 module _ (rules : Rules) (sound : Lawful rules.meaning) where
-  performed : (call : Call) (s : State) → number rules call s ≡ 0 → perform rules call s ≡ effect rules call s
-  performed call s z = ap (λ k. unless k s (effect rules call s)) z
-
   -- a call that is no tick leaves the clock
   later : (before : List Call) (call : Call) (i leg : ℕ) (b : Beat) → let s = run_state rules before in
       number rules call s ≡ 0 → 1 ≤ i → i ≤ rules.plan.n → on_leg leg (the i (effect rules call s).table) ≡ Some b → adds call true ≡ 0 →
       b.last ≤ s.table.clock + trip rules.meaning
   later before call i leg b z lo hi e still =
       let s = run_state rules before in
-      let same = played_snoc rules before call (opening rules) ∙ performed call s z in
+      let same = run_append rules before (call ∷ []) (opening rules) ∙ granted_effect rules call s z in
       let f = last_ticks rules sound (before ++ call ∷ []) i leg b lo hi (subst (λ (t : State). on_leg leg (the i t.table) ≡ Some b) (sym same) e) in
       omega (arith, f.1, ap (λ (t : State). t.table.clock) same, done_clock rules call s, still)
 
@@ -122,7 +118,7 @@ module _ (rules : Rules) (sound : Lawful rules.meaning) where
       (on_leg leg (the i s.table) ≡ Some b) ⊎ (b.last ≤ s.table.clock + trip rules.meaning)
   puts before Tick i leg b z lo hi e =
       let s = run_state rules before in
-      let long = (logged_after rules before).0.long in
+      let long = (run_logged rules before).told.long in
       let ends = round_ends s.table in
       let same = rounded_clock rules ends s in
       let p₀ = get_or s.table.parties (i - 1) nobody in
@@ -151,13 +147,13 @@ module _ (rules : Rules) (sound : Lawful rules.meaning) where
 
     last_after_sending : on_leg leg (the i (run_state rules calls).table) ≡ Some b → b.last ≤ tick_at (run_state rules calls).log b.place + trip rules.meaning
     last_after_sending e =
-        let p = put_by rules calls i leg b lo hi e in
+        let p = (run_logged rules calls).put i leg b lo hi e in
         let now = run_state rules p.before in
         let then = perform rules p.call now in
         let near = written_at p.before p.call (number rules p.call now) refl p.not_yet p.written p.put in
-        let kept = (grows rules p.after then).kept b.place p.written.below in
+        let kept = (grows rules then p.after).kept b.place p.written.below in
         let same : run_state rules calls ≡ state_after rules p.after then =
-        ap (λ cs. run_state rules cs) p.among ∙ played_cut rules p.before p.call p.after (opening rules) in
+        ap (λ cs. run_state rules cs) p.among ∙ run_append rules p.before (p.call ∷ p.after) (opening rules) in
         omega (arith, near, ap (λ (h : Happening). h.tick) kept, ap (λ (t : State). tick_at t.log b.place) same)
 
   -- arrivals and losses
@@ -170,7 +166,7 @@ module _ (rules : Rules) (sound : Lawful rules.meaning) where
       (k : ℕ) → k < length log → settles (happening_at log k).kind ≡ true → (happening_at log k).link < k
   linked_before calls k below is =
       let log = (run_state rules calls).log in
-      let t = (logged_after rules calls).0 in
+      let t = (run_logged rules calls).told in
       go (is_arrival (happening_at log k).kind) (is_loss (happening_at log k).kind) (λ e. (t.linked k below e).earlier) (λ e. (t.losses k below e).earlier) is
     where
       go : (x y : Bool) → (x ≡ true → (happening_at (run_state rules calls).log k).link < k) → (y ≡ true → (happening_at (run_state rules calls).log k).link < k) →
@@ -210,27 +206,23 @@ module _ (rules : Rules) (sound : Lawful rules.meaning) where
         ap (tick_at log) (sym u.sent_there) ∙ ap (λ (x : Happening). x.tick) (g.kept b.place below) in
         omega (arith, w.1, last.0, near, same)
 
-    settles_in_time : (call : Call) (k : ℕ) → number rules call now ≡ k → InTime now.log → InTime (unless k now (effect rules call now)).log
-    settles_in_time call zero z old k below is =
+    settles_in_time : (call : Call) → number rules call now ≡ 0 → InTime now.log → InTime (effect rules call now).log
+    settles_in_time call z old k below is =
         let log = (effect rules call now).log in
         let g = writes rules call now z in
         elim (dec_lt k (length now.log)) [
           | yes early ↦ earlier log k g old early is
           | no late ↦ latest log (happening_at log k) g (g.fresh k (omega arith) below) is
         ]
-    settles_in_time call (suc j) z old k below is = old k below is
 
-  plays : (before later : List Call) → InTime (run_state rules before).log → InTime (run_state rules (before ++ later)).log
-  plays before [] a = subst (λ calls. InTime (run_state rules calls).log) (sym (append-nil before)) a
-  plays before (call ∷ later) a =
-      let s = run_state rules before in
-      let next = settles_in_time before call (number rules call s) refl a in
-      subst (λ calls. InTime (run_state rules calls).log) (append_assoc before (call ∷ []) later)
-      (plays (before ++ call ∷ []) later (subst (λ (t : State). InTime t.log) (sym (played_snoc rules before call (opening rules))) next))
+  run_in_time : (calls : List Call) → InTime (run_state rules calls).log
+  run_in_time =
+      every_run rules (opening rules) (λ _ s. InTime s.log)
+      (λ before call z old. settles_in_time before call z old) (λ before call k z old. old) (λ k below. absurd (omega arith))
 
 pub in_time : RunsBringBeatsInTime
 in_time rules sound calls = record {
-  settled = plays rules sound [] calls (λ k below. absurd (omega arith));
+  settled = run_in_time rules sound calls;
   under_way = λ i leg b lo hi e.
       ((last_ticks rules sound calls i leg b lo hi e).0, last_after_sending rules sound calls i leg b lo hi e);
 }

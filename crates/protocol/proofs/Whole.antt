@@ -1,5 +1,5 @@
 -- What holds of a whole group between the calls of a run, and that each call keeps it.
-use Rattle.std.proofs.Common.{◌≡◌, ℕ, zero, suc, ◌+◌, ◌-◌, ◌<◌, ◌≤◌, Bool, true, false, not, ◌&&◌, eqb, List, [], ◌∷◌, length, get_or, set, Some, None, Option, sym, refl, ap, subst, arith, length-set}
+use Rattle.std.proofs.Common.{◌++◌, ◌∙◌, ◌≡◌, ℕ, zero, suc, ◌+◌, ◌-◌, ◌<◌, ◌≤◌, Bool, true, false, not, ◌&&◌, eqb, List, [], ◌∷◌, length, get_or, set, Some, None, Option, sym, refl, ap, subst, arith, length-set}
 use lib.ListN.{get_or-replicate}
 use Rattle.std.proofs.lemmas.Bool.Decides.{nat_tests}
 use Rattle.std.proofs.lemmas.Option.{slice_get-get_or}
@@ -28,12 +28,13 @@ use Rattle.protocol.specs.calls.Lose.{after_loss, after_loss_of}
 use Rattle.protocol.specs.calls.Crash.{after_crash, root_after_crash}
 use Rattle.protocol.specs.calls.Join.{after_join, may_join, is_outside}
 use Rattle.protocol.specs.calls.Leave.{after_leave, may_leave, is_in}
-use Rattle.protocol.specs.Runs.{number, effect, unless, perform, state_after, numbers, unharmed, spares}
+use Rattle.protocol.specs.Runs.{number, effect, perform, state_after, run_state, numbers, unharmed, spares}
 use Rattle.std.specs.Prelude.{is_some}
 use Rattle.protocol.specs.Questions.{asks, is_party, log_asks}
 use Rattle.protocol.specs.Beats.{FreeFor, BeatsTakeFreeLegs}
 use Rattle.protocol.specs.Kept.{Terms, LawfulTerms, Kept, Scene, Whole, terms}
 use Rattle.protocol.proofs.Numbers.{lawful}
+use Rattle.protocol.proofs.Runs.{every_run}
 use Rattle.protocol.proofs.Step as step
 use Rattle.protocol.proofs.Asked.{asked_party, asked_beat}
 use Rattle.protocol.proofs.Lifts.{set_each, walks_long, walks_each, any_false, false_any, folds_falls, folds_below, folds_above}
@@ -292,21 +293,22 @@ module _ (rules : Rules) (sound : Lawful rules.meaning) where
       let a = asked_wide _ _ _ _ e in
       weaken rules sound q true (after_leave i s) (whole_leaves rules sound q i s (wide_leave _ a.0) (inside _ a.1) w)
 
-  performs : (q : Bool) (call : Call) (s : State) (k : ℕ) → number rules call s ≡ k → Fine q s → Fine (q && spares call k) (unless k s (effect rules call s))
-  performs q call s zero e w = does q call s e w
-  performs q call s (suc k) e w = weaken rules sound q (spares call (suc k)) s w
+  and_more : (a b c x : Bool) → b ≡ (c && x) → (a && b) ≡ ((a && c) && x)
+  and_more true b c x e = e
+  and_more false b c x e = refl
 
-  regroup : (q b c : Bool) (s : State) → Fine ((q && b) && c) s → Fine (q && (b && c)) s
-  regroup true b c s w = w
-  regroup false b c s w = w
+  and_true : (b : Bool) → (b && true) ≡ b
+  and_true true = refl
+  and_true false = refl
 
-  pub plays : (q : Bool) (calls : List Call) (s : State) → Fine q s → Fine (q && unharmed calls (numbers rules calls s)) (state_after rules calls s)
-  plays q [] s w = weaken rules sound q true s w
-  plays q (call ∷ calls) s w =
-      regroup q (spares call (number rules call s)) _ (state_after rules calls (perform rules call s))
-      (plays (q && spares call (number rules call s)) calls (perform rules call s) (performs q call s (number rules call s) refl w))
+  unharmed_more : (calls : List Call) (call : Call) (s : State) →
+      unharmed (calls ++ call ∷ []) (numbers rules (calls ++ call ∷ []) s)
+      ≡ (unharmed calls (numbers rules calls s) && spares call (number rules call (state_after rules calls s)))
+  unharmed_more [] call s = and_true (spares call (number rules call s))
+  unharmed_more (x ∷ calls) call s =
+      and_more (spares x (number rules x s)) _ (unharmed calls (numbers rules calls (perform rules x s))) _ (unharmed_more calls call (perform rules x s))
 
-  pub opens : (q : Bool) → Fine q (opening rules)
+  opens : (q : Bool) → Fine q (opening rules)
   opens q = record {
     scene = let a = sound.low in let b = sound.ordered in omega arith;
     each = λ k h. subst (λ p. Kept (terms rules.meaning rules.plan.kind) rules.plan.kind q 0 Running 0 rules.meaning.tmax p)
@@ -314,6 +316,21 @@ module _ (rules : Rules) (sound : Lawful rules.meaning) where
         (step.open_kept (terms rules.meaning rules.plan.kind) rules.plan.kind (law rules sound) q);
     long = omega (arith, rules.plan.few);
   }
+
+  abbrev so_far : List Call → Bool
+  so_far calls = unharmed calls (numbers rules calls (opening rules))
+
+  more : (before : List Call) (call : Call) (k : ℕ) → number rules call (run_state rules before) ≡ k → (so_far before && spares call k) ≡ so_far (before ++ call ∷ [])
+  more before call k z = ap (λ k. so_far before && spares call k) (sym z) ∙ sym (unharmed_more before call (opening rules))
+
+  -- what holds of every run, of which is said whether each loss and crash was refused
+  pub run_whole : (calls : List Call) → Fine (so_far calls) (run_state rules calls)
+  run_whole =
+      every_run rules (opening rules) (λ calls s. Fine (so_far calls) s)
+      (λ before call z w. subst (λ q. Fine q (effect rules call (run_state rules before))) (more before call 0 z) (does (so_far before) call (run_state rules before) z w))
+      (λ before call k z w. subst (λ q. Fine q (run_state rules before)) (more before call (suc k) z)
+      (weaken rules sound (so_far before) (spares call (suc k)) (run_state rules before) w))
+      (opens true)
 
   -- the legs that a call puts beats on are free
 
@@ -344,14 +361,14 @@ module _ (rules : Rules) (sound : Lawful rules.meaning) where
 
 pub free_legs : BeatsTakeFreeLegs
 free_legs rules sound calls call e =
-    frees rules sound _ call (state_after rules calls (opening rules)) e (plays rules sound true calls (opening rules) (opens rules sound true))
+    frees rules sound _ call (run_state rules calls) e (run_whole rules sound calls)
 
 -- no beat of the root is on its way to a struck party
 pub no_beat_of_the_root :
     (rules : Rules) → Lawful rules.meaning → (calls : List Call) (i : ℕ) → 1 ≤ i → i ≤ rules.plan.n →
     let s = state_after rules calls (opening rules) in (the i s.table).note.roll ≡ Struck → (the i s.table).legs.out ≡ None
 no_beat_of_the_root rules sound calls i lo hi e =
-    let w = plays rules sound true calls (opening rules) (opens rules sound true) in
+    let w = run_whole rules sound calls in
     step.no_beat_to_struck _ _ (law rules sound) _ _ _ _ _ w.scene _ (w.each (i - 1) (omega arith)) e
 
 -- a beat on a leg may still arrive, and not for more than a trip
@@ -359,5 +376,5 @@ pub last_ticks :
     (rules : Rules) → Lawful rules.meaning → (calls : List Call) (i leg : ℕ) (b : Beat) → 1 ≤ i → i ≤ rules.plan.n →
     let s = state_after rules calls (opening rules) in on_leg leg (the i s.table) ≡ Some b → (s.table.clock ≤ b.last) × (b.last ≤ s.table.clock + trip rules.meaning)
 last_ticks rules sound calls i leg b lo hi e =
-    let w = plays rules sound true calls (opening rules) (opens rules sound true) in
+    let w = run_whole rules sound calls in
     step.last_ticks _ _ (law rules sound) _ _ _ _ _ w.scene _ (w.each (i - 1) (omega arith)) leg b e
