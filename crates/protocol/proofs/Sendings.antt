@@ -29,7 +29,7 @@ use Rattle.protocol.specs.State.{State, the, happening, with_record, with_linked
 use Rattle.protocol.specs.calls.Lose.{sender, after_loss_of}
 use Rattle.protocol.specs.Runs.{number, effect, run_state}
 use Rattle.protocol.specs.Beats.{settles, nothing, happening_at, FreeFor}
-use Rattle.protocol.specs.Sendings.{SettledAt, UnderWay, RunsLetNoBeatVanish}
+use Rattle.protocol.specs.Sendings.{SettledAt, UnderWay, NoBeatVanishes}
 use Rattle.protocol.proofs.Asked.{asked_party, asked_low}
 use Rattle.protocol.proofs.Lifts.{set_each, walks_long, walks_each}
 use Rattle.protocol.proofs.Onward.{every_push}
@@ -502,7 +502,7 @@ under_way n s k h = record {
   sent_there = h.has.sent_there;
 }
 
-pub no_beat_vanishes : RunsLetNoBeatVanish
+pub no_beat_vanishes : (rules : Rules) → Lawful rules.meaning → (calls : List Call) → NoBeatVanishes rules (run_state rules calls)
 no_beat_vanishes rules sound calls =
     let s = run_state rules calls in
     weaken s.log (HasOne rules.plan.n s.table.parties) (UnderWay rules.plan.n s.table) (under_way rules.plan.n s)

@@ -11,13 +11,13 @@ use Rattle.protocol.specs.State.{State, the, opening}
 use Rattle.protocol.specs.calls.Deliver.{after_arrival}
 use Rattle.protocol.specs.calls.Lose.{after_loss_of}
 use Rattle.protocol.specs.Questions.{asks, is_own_log, log_asks, is_party}
-use Rattle.protocol.specs.Runs.{number, effect, state_after}
+use Rattle.protocol.specs.Runs.{number, effect, state_after, run_state}
 use Rattle.std.specs.Prelude.{is_some}
 use Rattle.protocol.specs.calls.Join.{may_join, is_outside}
 use Rattle.protocol.specs.calls.Leave.{may_leave, is_in}
 use Rattle.protocol.specs.calls.Crash.{can_crash}
-use Rattle.protocol.specs.Beats.{is_arrival, happening_at, Edge, edge, edges, SourcesDiffer, BeatsAreLogged, RunsSettleEachSendingOnce}
-use Rattle.protocol.specs.Order.{RunsKeepTheirLogInOrder}
+use Rattle.protocol.specs.Beats.{is_arrival, happening_at, Edge, edge, edges, SourcesDiffer, BeatsAreLogged, SendingsSettleOnce}
+use Rattle.protocol.specs.Order.{LogInOrder}
 use Rattle.protocol.proofs.Logs.{at, run_logged, held_at}
 use Rattle.protocol.proofs.Own.{owns}
 use Rattle.protocol.proofs.Records.{owned}
@@ -67,8 +67,8 @@ arrival_settles : (a b : Bool) → a ≡ true → (a || b) ≡ true
 arrival_settles true b e = refl
 arrival_settles false b e = absurd (grind arith)
 
-pub settle_once : RunsSettleEachSendingOnce
-settle_once rules sound calls =
+pub settle_once : (rules : Rules) (calls : List Call) → SendingsSettleOnce rules (run_state rules calls)
+settle_once rules calls =
     let t = (run_logged rules calls).told in
     record {
       once = t.once;
@@ -130,8 +130,8 @@ never_another rules (Crash i) s own e = log_asked 2 rules.room s own (passed_two
 never_another rules (Join i) s own e = log_asked 2 rules.room s own (passed_three (is_party rules.plan.n i) (may_join rules.plan.kind) (is_outside (the i s.table).own.standing) _ e)
 never_another rules (Leave i) s own e = log_asked 2 rules.room s own (passed_three (is_party rules.plan.n i) (may_leave rules.plan.kind) (is_in (the i s.table).own.standing) _ e)
 
-pub in_order : RunsKeepTheirLogInOrder
-in_order rules sound calls =
+pub in_order : (rules : Rules) (calls : List Call) → LogInOrder rules (run_state rules calls)
+in_order rules calls =
     let s = state_after rules calls (opening rules) in
     let o = (run_logged rules calls).told.order in
     let e = every_state rules (opening rules) Counts (λ call s z e. counts_done rules call s e) refl calls in

@@ -10,12 +10,13 @@ use Rattle.protocol.specs.Walk.{walks}
 use Rattle.protocol.specs.Party.{nobody, on_leg, off_leg}
 use Rattle.protocol.specs.calls.Deliver.{arrives, after_arrival}
 use Rattle.protocol.specs.calls.Tick.{missed, sends, times, after_count, after_sending, shortest, after_start, after_verdict_of, after_round_if, after_round, round_ends, after_timers}
+use Rattle.pace.specs.Meaning.{Lawful}
 use Rattle.protocol.specs.Rules.{Rules}
 use Rattle.protocol.specs.State.{State, the, opening}
 use Rattle.protocol.specs.calls.Lose.{after_loss_of}
 use Rattle.protocol.specs.calls.Crash.{after_crash}
 use Rattle.protocol.specs.Runs.{effect, run_state}
-use Rattle.protocol.specs.Strikes.{IsStruck, RunsStrikeForGood}
+use Rattle.protocol.specs.Strikes.{IsStruck, StruckForGood}
 use Rattle.protocol.proofs.Lifts.{set_each}
 use Rattle.protocol.proofs.Runs.{every_state, run_append}
 use Rattle.protocol.proofs.Whole.{no_beat_of_the_root}
@@ -102,7 +103,7 @@ module _ (i : ℕ) where
         subst (IsStruck i) (sym (run_append rules before later (opening rules)))
         (every_state rules (run_state rules before) (IsStruck i) (λ call s z e. does call s e) e later)
 
-pub strikes_for_good : RunsStrikeForGood
+pub strikes_for_good : (rules : Rules) → Lawful rules.meaning → (calls : List Call) → StruckForGood rules calls
 strikes_for_good rules sound calls = record {
   stays_struck = λ before later after i among lo hi e. run_struck i rules before later e;
   gets_no_beat = λ before after i among lo hi e. no_beat_of_the_root rules sound before i lo hi e;

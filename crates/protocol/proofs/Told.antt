@@ -30,8 +30,8 @@ use Rattle.protocol.specs.calls.Tick.{missed, sends, missed_all, times, times_as
 use Rattle.protocol.specs.State.{State, the, happening, with_record, with_linked, runs, opening}
 use Rattle.protocol.specs.calls.Lose.{sender, after_loss_of}
 use Rattle.protocol.specs.Questions.{asks}
-use Rattle.protocol.specs.Runs.{number, effect}
-use Rattle.protocol.specs.Told.{read, Account, account_of, first_account, tells_as, told_of, root_as, root_told, TellsTheGroup, RunsTellTheirGroup}
+use Rattle.protocol.specs.Runs.{number, effect, run_state}
+use Rattle.protocol.specs.Told.{read, Account, account_of, first_account, tells_as, told_of, root_as, root_told, TellsTheGroup}
 use Rattle.protocol.proofs.Runs.{every_state}
 use Rattle.protocol.proofs.Asked.{asked_party}
 use Rattle.protocol.proofs.Lifts.{walks_long, walks_each}
@@ -488,5 +488,5 @@ module _ (rules : Rules) where
     };
   }
 
-pub tells_the_group : RunsTellTheirGroup
-tells_the_group rules sound calls = (every_state rules (opening rules) (AllTold rules) (does rules) (opens rules) calls).tells
+pub tells_the_group : (rules : Rules) (calls : List Call) → TellsTheGroup rules (run_state rules calls)
+tells_the_group rules calls = (every_state rules (opening rules) (AllTold rules) (does rules) (opens rules) calls).tells

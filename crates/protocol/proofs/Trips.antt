@@ -21,7 +21,7 @@ use Rattle.protocol.specs.Runs.{number, effect, unless, perform, state_after, ru
 use Rattle.protocol.specs.Rehearsals.{adds}
 use Rattle.protocol.specs.Beats.{is_arrival, is_loss, settles, happening_at, SentBy}
 use Rattle.protocol.specs.Sendings.{UnderWay}
-use Rattle.protocol.specs.Trips.{tick_at, RunsBringBeatsInTime}
+use Rattle.protocol.specs.Trips.{tick_at, BeatsComeInTime}
 use Rattle.protocol.proofs.Clock.{rounded_clock}
 use Rattle.protocol.proofs.Lifts.{walks_long, walks_each}
 use Rattle.protocol.proofs.Logs.{run_logged, held}
@@ -220,7 +220,7 @@ module _ (rules : Rules) (sound : Lawful rules.meaning) where
       every_run rules (opening rules) (λ _ s. InTime s.log)
       (λ before call z old. settles_in_time before call z old) (λ before call k z old. old) (λ k below. absurd (omega arith))
 
-pub in_time : RunsBringBeatsInTime
+pub in_time : (rules : Rules) → Lawful rules.meaning → (calls : List Call) → BeatsComeInTime rules (run_state rules calls)
 in_time rules sound calls = record {
   settled = run_in_time rules sound calls;
   under_way = λ i leg b lo hi e.

@@ -31,7 +31,7 @@ use Rattle.protocol.specs.calls.Leave.{after_leave, may_leave, is_in}
 use Rattle.protocol.specs.Runs.{number, effect, perform, state_after, run_state, numbers, unharmed, spares}
 use Rattle.std.specs.Prelude.{is_some}
 use Rattle.protocol.specs.Questions.{asks, is_party, log_asks}
-use Rattle.protocol.specs.Beats.{FreeFor, BeatsTakeFreeLegs}
+use Rattle.protocol.specs.Beats.{FreeFor}
 use Rattle.protocol.specs.Kept.{Terms, LawfulTerms, Kept, Scene, Whole, terms}
 use Rattle.protocol.proofs.Numbers.{lawful}
 use Rattle.protocol.proofs.Runs.{every_run}
@@ -359,7 +359,8 @@ module _ (rules : Rules) (sound : Lawful rules.meaning) where
       step.free_entry_outside _ _ (law rules sound) q _ _ _ _ w.scene _ (w.each (i - 1) (omega arith)) (outside _ b.1)
   frees q (Leave i) s e w = tt
 
-pub free_legs : BeatsTakeFreeLegs
+pub free_legs : (rules : Rules) → Lawful rules.meaning → (calls : List Call) (call : Call) →
+    number rules call (run_state rules calls) ≡ 0 → FreeFor rules call (run_state rules calls)
 free_legs rules sound calls call e =
     frees rules sound _ call (run_state rules calls) e (run_whole rules sound calls)
 

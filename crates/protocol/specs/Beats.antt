@@ -9,12 +9,11 @@ use Rattle.protocol.specs.declared.call.Call.TheVariants.{Tick, Deliver, Lose, C
 use Rattle.protocol.specs.calls.Tick.{LegsFreeAtTick}
 use Rattle.protocol.specs.calls.Deliver.{ReplyLegFree}
 use Rattle.protocol.specs.calls.Join.{EntryLegFree}
-use Rattle.pace.specs.Meaning.{Lawful}
 use Rattle.protocol.specs.Party.{on_leg}
 use Rattle.protocol.specs.Rules.{Rules}
 use Rattle.protocol.specs.State.{State, the, happening, opening}
 use Rattle.protocol.specs.calls.Lose.{sender}
-use Rattle.protocol.specs.Runs.{number, perform, state_after}
+use Rattle.protocol.specs.Runs.{perform, state_after}
 
 abbrev pub is_arrival : HappeningKind → Bool
 is_arrival Sent = false
@@ -125,11 +124,6 @@ pub record SendingsSettleOnce (rules : Rules) (s : State) : Type 0 where
   pub apart : (i leg : ℕ) (b : Beat) (i' leg' : ℕ) (b' : Beat) → 1 ≤ i → i ≤ rules.plan.n → 1 ≤ i' → i' ≤ rules.plan.n →
       on_leg leg (the i s.table) ≡ Some b → on_leg leg' (the i' s.table) ≡ Some b' → b.place ≡ b'.place → (i ≡ i') × (leg ≡ leg')
 
--- in every run no sending is the source of two
-abbrev pub RunsSettleEachSendingOnce : Type 0
-RunsSettleEachSendingOnce =
-    (rules : Rules) → Lawful rules.meaning → (calls : List Call) → SendingsSettleOnce rules (state_after rules calls (opening rules))
-
 -- the call among these, made from s₀ on, that put the beat b on a leg of party i: it wrote the record of its sending
 pub record PutBy (rules : Rules) (s₀ : State) (calls : List Call) (i leg : ℕ) (b : Beat) : Type 0 where
   pub before : List Call
@@ -141,11 +135,11 @@ pub record PutBy (rules : Rules) (s₀ : State) (calls : List Call) (i leg : ℕ
   pub written : SentBy (perform rules call (state_after rules before s₀)).log (sender leg i) b.place
   pub put : on_leg leg (the i (perform rules call (state_after rules before s₀)).table) ≡ Some b
 
--- in every run, each beat on a leg was put there by the call that wrote the record of its sending
-abbrev pub RunsPutEachBeatWithItsSending : Type 0
-RunsPutEachBeatWithItsSending =
-    (rules : Rules) → Lawful rules.meaning → (calls : List Call) (i leg : ℕ) (b : Beat) → 1 ≤ i → i ≤ rules.plan.n →
-    on_leg leg (the i (state_after rules calls (opening rules)).table) ≡ Some b → PutBy rules (opening rules) calls i leg b
+-- each beat on a leg was put there by the call, among those from the opening on, that wrote the record of its sending
+abbrev pub PutWithTheirSendings : Rules → List Call → State → Type 0
+PutWithTheirSendings rules calls s =
+    (i leg : ℕ) (b : Beat) → 1 ≤ i → i ≤ rules.plan.n → on_leg leg (the i s.table) ≡ Some b →
+    PutBy rules (opening rules) calls i leg b
 
 -- the legs on which the call puts a beat are free
 abbrev pub FreeFor : Rules → Call → State → Type 0
@@ -155,9 +149,3 @@ FreeFor rules (Lose i leg) s = Unit {0}
 FreeFor rules (Crash i) s = Unit {0}
 FreeFor rules (Join i) s = EntryLegFree i s
 FreeFor rules (Leave i) s = Unit {0}
-
--- no call of a run puts a beat on a leg that holds one
-abbrev pub BeatsTakeFreeLegs : Type 0
-BeatsTakeFreeLegs =
-    (rules : Rules) → Lawful rules.meaning → (calls : List Call) (call : Call) →
-    number rules call (state_after rules calls (opening rules)) ≡ 0 → FreeFor rules call (state_after rules calls (opening rules))

@@ -6,7 +6,7 @@ use Rattle.protocol.specs.Rules.{Rules}
 use Rattle.protocol.specs.State.{State, opening}
 use Rattle.protocol.specs.Runs.{number, state_after, unharmed}
 use Rattle.protocol.specs.Laws.{RootFollows, PartiesFollow, StopsForCause, NobodyStopped}
-use Rattle.protocol.specs.Beats.{BeatsAreLogged, SendingsSettleOnce, FreeFor, edges}
+use Rattle.protocol.specs.Beats.{BeatsAreLogged, PutWithTheirSendings, SendingsSettleOnce, FreeFor, edges}
 use Rattle.protocol.specs.Order.{LogInOrder}
 use Rattle.protocol.specs.Rehearsals.{Rehearsed, call_of, answer_of, granted_ticks}
 use Rattle.protocol.specs.Deliveries.{EdgesAreTheDeliveries}
@@ -40,6 +40,8 @@ pub record KeepsTheRules (rules : Rules) (steps : List Step) (s : State) : Type 
   pub nobody_stops_unharmed : unharmed (map call_of steps) (map answer_of steps) ≡ true → NobodyStopped rules s
   -- each beat on a leg, each arrival and each loss goes back to its sending
   pub beats_go_back_to_their_sendings : BeatsAreLogged rules s
+  -- each beat on a leg was put there by the call that wrote the record of its sending
+  pub beats_are_put_with_their_sendings : PutWithTheirSendings rules (map call_of steps) s
   -- no sending is the source of two: each arrives or is lost once at most
   pub no_sending_settles_twice : SendingsSettleOnce rules s
   -- no beat vanishes: each sending has arrived, is lost or is under way

@@ -1,6 +1,5 @@
 -- What the log of a run tells of the root and of each party, read record by record.
 use Rattle.std.specs.Prelude.{◌≡◌, ℕ, ◌≤◌, cond, List, [], ◌∷◌, ◌==◌}
-use Rattle.pace.specs.Meaning.{Lawful}
 use Rattle.protocol.specs.declared.party.Party.{Party}
 use Rattle.protocol.specs.declared.party.Own.{Own}
 use Rattle.protocol.specs.declared.party.Stage.TheVariants.{Joining as Joins, In, Leaving as Leaves}
@@ -18,10 +17,8 @@ use Rattle.protocol.specs.declared.kind.GroupKind.TheVariants.{Closed, Expanding
 use Rattle.protocol.specs.declared.happening.HappeningKind.{HappeningKind}
 use Rattle.protocol.specs.declared.happening.HappeningKind.TheVariants.{Sent, Arrived, Lost, Enrolled, Struck, Crashed, Stopped, Left, Joining, Leaving}
 use Rattle.protocol.specs.declared.happening.Happening.{Happening}
-use Rattle.protocol.specs.declared.call.Call.{Call}
 use Rattle.protocol.specs.Rules.{Rules}
 use Rattle.protocol.specs.State.{State, the}
-use Rattle.protocol.specs.Runs.{run_state}
 
 -- what the records owned by i make of x, one after another
 abbrev pub read : {A : Type 0} → (A → Happening → A) → ℕ → A → List Happening → A
@@ -99,9 +96,3 @@ root_told log = read (λ r h. root_as h.kind h.tick r) 0 Running log
 pub record TellsTheGroup (rules : Rules) (s : State) : Type 0 where
   pub party : (i : ℕ) → 1 ≤ i → i ≤ rules.plan.n → told_of rules.plan.kind i s.log ≡ account_of (the i s.table)
   pub root : root_told s.log ≡ s.table.root
-
--- the log of every run tells its group
-abbrev pub RunsTellTheirGroup : Type 0
-RunsTellTheirGroup =
-    (rules : Rules) → Lawful rules.meaning → (calls : List Call) →
-    TellsTheGroup rules (run_state rules calls)
