@@ -74,7 +74,7 @@ settle_once rules calls =
       once = t.once;
       sources_differ = sources 0 _ (λ j k lt h is_j is_k. t.once j k lt h (arrival_settles _ _ is_j) (arrival_settles _ _ is_k));
       under_way = λ i leg b lo hi. t.under_way (i - 1) leg b (omega arith);
-      apart = λ i leg b i' leg' b' lo hi lo' hi' e e' same.
+      apart = λ i leg b lo hi e i' leg' b' lo' hi' e' same.
           let z = t.apart (i - 1) leg b (i' - 1) leg' b' (omega arith) (omega arith) e e' same in (omega (arith, z.0), z.1);
     }
 

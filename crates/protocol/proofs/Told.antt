@@ -31,7 +31,7 @@ use Rattle.protocol.specs.State.{State, the, happening, with_record, with_linked
 use Rattle.protocol.specs.calls.Lose.{sender, after_loss_of}
 use Rattle.protocol.specs.Questions.{asks}
 use Rattle.protocol.specs.Runs.{number, effect, run_state}
-use Rattle.protocol.specs.Told.{read, Account, account_of, first_account, tells_as, told_of, root_as, root_told, TellsTheGroup}
+use Rattle.protocol.specs.Told.{after_reading, Account, account_of, first_account, tells_as, told_of, root_as, root_told, TellsTheGroup}
 use Rattle.protocol.proofs.Runs.{every_state}
 use Rattle.protocol.proofs.Asked.{asked_party}
 use Rattle.protocol.proofs.Lifts.{walks_long, walks_each}
@@ -39,7 +39,7 @@ use Rattle.protocol.proofs.Lifts.{walks_long, walks_each}
 -- what records make of x
 
 module _ {A : Type 0} (f : A → Happening → A) (i : ℕ) where
-  read_push : (x : A) (log : List Happening) (h : Happening) → read f i x (log ++ h ∷ []) ≡ cond (eqb h.owner i) (f (read f i x log) h) (read f i x log)
+  read_push : (x : A) (log : List Happening) (h : Happening) → after_reading f i x (log ++ h ∷ []) ≡ cond (eqb h.owner i) (f (after_reading f i x log) h) (after_reading f i x log)
   read_push x [] h = refl
   read_push x (y ∷ log) h = read_push (cond (eqb y.owner i) (f x y) x) log h
 
@@ -48,8 +48,8 @@ module _ {A : Type 0} (f : A → Happening → A) (i : ℕ) where
   cond_same false x y e = refl
 
   -- a record that tells nothing
-  pub read_idle : (x : A) (log : List Happening) (h : Happening) → ((y : A) → f y h ≡ y) → read f i x (log ++ h ∷ []) ≡ read f i x log
-  read_idle x log h idle = read_push x log h ∙ cond_same (eqb h.owner i) (read f i x log) _ (idle _)
+  pub read_idle : (x : A) (log : List Happening) (h : Happening) → ((y : A) → f y h ≡ y) → after_reading f i x (log ++ h ∷ []) ≡ after_reading f i x log
+  read_idle x log h idle = read_push x log h ∙ cond_same (eqb h.owner i) (after_reading f i x log) _ (idle _)
 
   not_mine : (o : ℕ) → (o ≡ i → ⊥) → eqb o i ≡ false
   not_mine o e = grind (arith, nat_tests)
@@ -58,20 +58,20 @@ module _ {A : Type 0} (f : A → Happening → A) (i : ℕ) where
   is_mine o e = grind (arith, nat_tests)
 
   -- a record of another owner
-  pub read_other : (x : A) (log : List Happening) (h : Happening) → (h.owner ≡ i → ⊥) → read f i x (log ++ h ∷ []) ≡ read f i x log
+  pub read_other : (x : A) (log : List Happening) (h : Happening) → (h.owner ≡ i → ⊥) → after_reading f i x (log ++ h ∷ []) ≡ after_reading f i x log
   read_other x log h other =
-      read_push x log h ∙ ap (λ b. cond b (f (read f i x log) h) (read f i x log)) (not_mine h.owner other)
+      read_push x log h ∙ ap (λ b. cond b (f (after_reading f i x log) h) (after_reading f i x log)) (not_mine h.owner other)
 
   -- a record of this owner
-  pub read_mine : (x : A) (log : List Happening) (h : Happening) → h.owner ≡ i → read f i x (log ++ h ∷ []) ≡ f (read f i x log) h
+  pub read_mine : (x : A) (log : List Happening) (h : Happening) → h.owner ≡ i → after_reading f i x (log ++ h ∷ []) ≡ f (after_reading f i x log) h
   read_mine x log h mine =
-      read_push x log h ∙ ap (λ b. cond b (f (read f i x log) h) (read f i x log)) (is_mine h.owner mine)
+      read_push x log h ∙ ap (λ b. cond b (f (after_reading f i x log) h) (after_reading f i x log)) (is_mine h.owner mine)
 
   -- a walk of which no turn tells anything
   pub read_past :
       {B : Type 0} (x : A) (g : ℕ → List Happening → B → List Happening) →
-      ((j : ℕ) (log : List Happening) (b : B) → i < j → read f i x (g j log b) ≡ read f i x log) →
-      (j n : ℕ) (log : List Happening) (bs : List B) → i < j → read f i x (folds g j n log bs) ≡ read f i x log
+      ((j : ℕ) (log : List Happening) (b : B) → i < j → after_reading f i x (g j log b) ≡ after_reading f i x log) →
+      (j n : ℕ) (log : List Happening) (bs : List B) → i < j → after_reading f i x (folds g j n log bs) ≡ after_reading f i x log
   read_past x g other j zero log bs h = refl
   read_past x g other j (suc n) log [] h = refl
   read_past x g other j (suc n) log (b ∷ bs) h = read_past x g other (suc j) n (g j log b) bs (omega arith) ∙ other j log b h

@@ -1,5 +1,6 @@
--- The invariant of runs: what holds of each party and of the round between the calls. Only the proofs of the laws need it.
--- In what follows c is the clock, r the root, a and l the start and the length of the round, h the tick when the party last heard.
+-- The invariant of runs: what holds of each party and of the round between the calls.
+-- Only the proofs of the laws need it. In what follows c is the clock, r the root, a and l the start
+-- and the length of the round, h the tick when the party last heard.
 use Rattle.std.specs.Prelude.{◌≡◌, ℕ, suc, ◌+◌, ◌-◌, ◌%◌, ◌<◌, ◌≤◌, Bool, true, false, length, drop, Some, None, sum, Option, slice_index, slice_index_or}
 use Rattle.pace.specs.Meaning.{Meaning}
 use Rattle.protocol.specs.Rules.{trip, patience}
@@ -161,7 +162,8 @@ By (Live In) h d x = x ≤ h + d
 By (Live Leaving) h d x = x ≤ h + d
 By (Ended how e s) h d x = x ≤ e + d
 
--- a running root has missed less than all rounds of a party; where the party is on the roll, the root's deadline for it, x and the rest of the waits, lies within P
+-- a running root has missed less than all rounds of a party; where the party is on the roll,
+-- the root's deadline for it, x and the rest of the waits, lies within P
 abbrev pub Pressed : Root → Roll → Bool → (ℕ → Type 0) → ℕ → Terms → ℕ → ℕ → Type 0
 Pressed (Down how e) roll heard P x m l n = Unit {0}
 Pressed Running Off heard P x m l n = n < m.span
@@ -249,11 +251,13 @@ Beckoned tmin trip c (Live In) h o = Unit {0}
 Beckoned tmin trip c (Live Leaving) h o = Unit {0}
 Beckoned tmin trip c (Ended how e s) h o = Unit {0}
 
--- where each loss and crash was refused: a joining party's call is under way, and a party on the roll has missed nothing, lives and will be heard
+-- where each loss and crash was refused: a joining party's call is under way,
+-- and a party on the roll has missed nothing, lives and will be heard
 abbrev pub Trusted : Roll → Note → Own → Legs → ℕ → ℕ → ℕ → ℕ → Type 0
 Trusted Off n o g trip d a l = Called o.standing g.entry (o.since + trip)
 Trusted On n o g trip d a l =
-    (n.misses ≡ 0) × Alive o.standing × Word n.heard g.out g.reply × Ahead g.out (a + trip) l (o.since + d)
+    (n.misses ≡ 0) × Alive o.standing × Word n.heard g.out g.reply
+    × Ahead g.out (a + trip) l (o.since + d)
 Trusted Struck n o g trip d a l = Unit {0}
 
 -- where each loss and crash was refused (the Bool), the root runs and nobody has crashed or stopped
@@ -266,7 +270,8 @@ abbrev pub Timely : Root → ℕ → ℕ → ℕ → Type 0
 Timely Running c a l = c ≤ a + l
 Timely (Down how e) c a l = (e ≤ c) × (a ≤ e)
 
--- the round: its length lies between the limits, it began not after the clock, and the clock is in it
+-- the round: its length lies between the limits, it began not after the clock,
+-- and the clock is in it
 pub record Scene (m : Terms) (c : ℕ) (r : Root) (a l : ℕ) : Type 0 where
   pub long : m.tmin ≤ l
   pub short : l ≤ m.tmax
@@ -274,7 +279,8 @@ pub record Scene (m : Terms) (c : ℕ) (r : Root) (a l : ℕ) : Type 0 where
   pub timely : Timely r c a l
 
 -- what holds of one party p; q says that each loss and crash so far was refused
-pub record Kept (m : Terms) (kind : GroupKind) (q : Bool) (c : ℕ) (r : Root) (a l : ℕ) (p : Party) : Type 0 where
+pub record Kept (m : Terms) (kind : GroupKind) (q : Bool) (c : ℕ) (r : Root) (a l : ℕ)
+    (p : Party) : Type 0 where
   -- it last heard not after the clock
   pub past : p.own.since ≤ c
   -- a beat out from the root is of this round and may still arrive
@@ -292,7 +298,9 @@ pub record Kept (m : Terms) (kind : GroupKind) (q : Bool) (c : ℕ) (r : Root) (
   -- its end came not after the clock, and not before it last heard
   pub finished : Finished p.own.standing c p.own.since
   -- a running root stops within the patience of a party on the roll that is heard no more
-  pub pressed : Pressed r p.note.roll p.note.heard (By p.own.standing p.own.since m.patience) (a + l) m l p.note.misses
+  pub pressed :
+      Pressed r p.note.roll p.note.heard (By p.own.standing p.own.since m.patience)
+      (a + l) m l p.note.misses
   -- a live party has not outlived its patience
   pub patient : Patient p.own.standing c p.own.since m.patience
   -- a party on the roll hears nothing for long after the root's end
@@ -320,5 +328,7 @@ terms m kind = record {
 -- what holds of the round and of each of the first n parties
 pub record Whole (m : Terms) (kind : GroupKind) (q : Bool) (n : ℕ) (t : Table) : Type 0 where
   pub scene : Scene m t.clock t.root t.start t.length
-  pub each : (k : ℕ) → k < n → Kept m kind q t.clock t.root t.start t.length (slice_index_or t.parties k nobody)
+  pub each :
+      (k : ℕ) → k < n →
+      Kept m kind q t.clock t.root t.start t.length (slice_index_or t.parties k nobody)
   pub long : n ≤ length t.parties

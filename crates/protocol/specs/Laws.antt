@@ -33,15 +33,19 @@ pub record RootFollows (rules : Rules) (s : State) : Type 0 where
 -- where the root has ended, each party on the roll ends within its patience and one trip
 pub record PartiesFollow (rules : Rules) (s : State) : Type 0 where
   pub parties_follow :
-      (r i : ℕ) → RootEndedAt s r → r + patience rules.meaning rules.plan.kind + trip rules.meaning < s.table.clock →
+      (r i : ℕ) → RootEndedAt s r →
+      r + patience rules.meaning rules.plan.kind + trip rules.meaning < s.table.clock →
       1 ≤ i → i ≤ rules.plan.n → OnRoll (the i s.table) → (e : ℕ) × EndedAt (the i s.table) e
 
 -- a party that was in stops only after the root has ended
 pub record StopsForCause (rules : Rules) (s : State) : Type 0 where
   pub stops_for_cause :
-      (i e : ℕ) → 1 ≤ i → i ≤ rules.plan.n → (the i s.table).own.standing ≡ Ended Stopped e In → (r : ℕ) × RootEndedAt s r × (r ≤ e)
+      (i e : ℕ) → 1 ≤ i → i ≤ rules.plan.n → (the i s.table).own.standing ≡ Ended Stopped e In →
+      (r : ℕ) × RootEndedAt s r × (r ≤ e)
 
 -- neither the root nor a party has stopped
 pub record NobodyStopped (rules : Rules) (s : State) : Type 0 where
   pub root_not : (e : ℕ) → s.table.root ≢ Down RootStopped e
-  pub party_not : (i e : ℕ) (g : Stage) → 1 ≤ i → i ≤ rules.plan.n → (the i s.table).own.standing ≢ Ended Stopped e g
+  pub party_not :
+      (i e : ℕ) (g : Stage) → 1 ≤ i → i ≤ rules.plan.n →
+      (the i s.table).own.standing ≢ Ended Stopped e g

@@ -27,8 +27,8 @@ pub record OwnLog (s : State) : Type 0 where
 abbrev pub TellsOwnLog : Bool → State → Type 0
 TellsOwnLog answer s = IsNonDecreasingBy tick_of s.log → (answer ≡ true) ↔ OwnLog s
 
--- the log is in order, each record is of the root or a party of the plan, the group has counted them,
--- and so no call is refused because the log is another's
+-- the log is in order, each record is of the root or a party of the plan,
+-- the group has counted them, and so no call is refused because the log is another's
 pub record LogInOrder (rules : Rules) (s : State) : Type 0 where
   pub in_order : InOrder s.table.clock s.log
   pub owned : OwnedUpTo rules.plan.n s.log

@@ -18,7 +18,9 @@ answer_of x = number_told x.answer
 -- the steps lead from s to s': each answers its call's number and does what the call does
 abbrev pub Rehearsed : Rules → State → List Step → State → Type 0
 Rehearsed rules s [] s' = s' ≡ s
-Rehearsed rules s (x ∷ xs) s' = (number_told x.answer ≡ number rules x.call s) × Rehearsed rules (perform rules x.call s) xs s'
+Rehearsed rules s (x ∷ xs) s' =
+    (number_told x.answer ≡ number rules x.call s)
+    × Rehearsed rules (perform rules x.call s) xs s'
 
 -- what a call adds to the clock, if it was granted
 abbrev pub adds : Call → Bool → ℕ
