@@ -21,9 +21,13 @@ use Rattle.protocol.specs.Beats.{edge, edges, PutBy}
 use Rattle.protocol.specs.Deliveries.{delivery_of, granted_deliveries, receiver, ArrivedBy, IsEdgeOf, EdgesAreTheDeliveries}
 use Rattle.protocol.proofs.Asked.{asked_beat}
 use Rattle.protocol.proofs.Making.{some_number}
-use Rattle.protocol.proofs.Logs.{beat_edge, delivery, deliveries, deliveries_append, run_logged, held}
-use Rattle.protocol.proofs.Records.{Grown, OwnedBy, further, follows, arrived_push, arrived_still, sent_still, grows}
+use Rattle.protocol.proofs.Logs.{beat_edge, delivery, deliveries}
+use Rattle.protocol.proofs.every.Logs.{deliveries_append, run_logged, held}
+use Rattle.protocol.proofs.Records.{Grown, OwnedBy, arrived_push, arrived_still, sent_still}
+use Rattle.protocol.proofs.every.Records.{grows}
 use Rattle.protocol.proofs.Runs.{run_of}
+use Rattle.protocol.proofs.Records.{grown_further}
+use Rattle.protocol.proofs.calls.Deliver.{follows_grow}
 
 -- a beat stands on one of three legs
 leg_as : (x y z : Bool) (p : Party) (b : Beat) → cond x p.legs.out (cond y p.legs.reply (cond z p.legs.entry None)) ≡ Some b → (x ≡ true → ⊥) → (y ≡ true → ⊥) → z ≡ true
@@ -94,7 +98,7 @@ module _ (rules : Rules) where
   arrives_as None i leg b s e h = absurd (grind arith)
   arrives_as (Some d) i leg b s e h =
       let t = s.table in
-      arrived_still _ _ t.clock (receiver leg i) (length s.log) (follows rules (λ _. ⊥) t.clock t.root leg d i (the i t) s.log h)
+      arrived_still _ _ t.clock (receiver leg i) (length s.log) (follows_grow rules (λ _. ⊥) t.clock t.root leg d i (the i t) s.log h)
       (arrived_push s.log t.clock (receiver leg i) d.place)
 
   arrives_at : (i leg k : ℕ) (b : Beat) (s : State) → k ≡ 0 → on_leg leg (the i s.table) ≡ Some b → i ≤ rules.plan.n →
@@ -151,7 +155,7 @@ module _ (rules : Rules) where
           arrival = arrived_still then.log s.log _ _ _ later arrival;
           not_yet = omega arith;
           written = arrival.below;
-          sending = sent_still now.log s.log _ _ (further _ _ _ _ (grows rules now (Deliver i leg ∷ [])) later) (held rules calls i leg b asked.0 asked.1 stood.1);
+          sending = sent_still now.log s.log _ _ (grown_further _ _ _ _ (grows rules now (Deliver i leg ∷ [])) later) (held rules calls i leg b asked.0 asked.1 stood.1);
           beat = b;
           stood = stood.1;
           sent_there = refl;

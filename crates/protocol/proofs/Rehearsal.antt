@@ -18,13 +18,13 @@ use Rattle.protocol.proofs.Runs.{run_of}
 use Rattle.protocol.proofs.Ticks.{counts_ticks}
 use Rattle.protocol.proofs.Shown.{logs_beats, settle_once, in_order}
 use Rattle.protocol.proofs.Deliveries.{are_the_deliveries}
-use Rattle.protocol.proofs.Sendings.{no_beat_vanishes}
-use Rattle.protocol.proofs.Strikes.{strikes_for_good}
-use Rattle.protocol.proofs.Told.{tells_the_group}
+use Rattle.protocol.proofs.every.Sendings.{no_beat_vanishes}
+use Rattle.protocol.proofs.every.Strikes.{strikes_for_good}
+use Rattle.protocol.proofs.every.Told.{tells_the_group}
 use Rattle.protocol.proofs.Trips.{in_time}
 use Rattle.protocol.proofs.Ends.{root_follows, parties_follow, stops_for_cause, nobody_stopped}
-use Rattle.protocol.proofs.Whole.{run_whole, free_legs}
-use Rattle.protocol.proofs.Logs.{run_logged}
+use Rattle.protocol.proofs.every.Whole.{run_whole, free_legs}
+use Rattle.protocol.proofs.every.Logs.{run_logged}
 
 pub map_set : {A B : Type 0} (f : A → B) (xs : List A) (i : ℕ) (y d : A) → f y ≡ f (get_or xs i d) → map f (set xs i y) ≡ map f xs
 map_set f [] i y d e = refl

@@ -18,9 +18,10 @@ use Rattle.protocol.specs.calls.Leave.{may_leave, is_in}
 use Rattle.protocol.specs.calls.Crash.{can_crash}
 use Rattle.protocol.specs.Beats.{is_arrival, happening_at, Edge, edge, edges, SourcesDiffer, BeatsAreLogged, SendingsSettleOnce}
 use Rattle.protocol.specs.Order.{LogInOrder}
-use Rattle.protocol.proofs.Logs.{at, run_logged, held_at}
+use Rattle.protocol.proofs.Logs.{at, held_at}
+use Rattle.protocol.proofs.every.Logs.{run_logged}
 use Rattle.protocol.proofs.Own.{owns}
-use Rattle.protocol.proofs.Records.{owned}
+use Rattle.protocol.proofs.every.Records.{owned}
 use Rattle.protocol.proofs.Runs.{every_state}
 
 -- in every run the beats are logged
