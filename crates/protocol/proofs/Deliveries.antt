@@ -1,7 +1,7 @@
 -- The edges of a run's log are its granted deliveries.
 use Rattle.std.proofs.Common.{◌≡◌, ℕ, zero, suc, ◌≤◌, Bool, true, false, cond, eqb, List, [], ◌∷◌, ◌++◌, map, length, get_or, Some, None, Option, Ok, Err, Result, is_ok, IsOk, sym, refl, ap, ◌∙◌, subst, arith}
 use Rattle.std.proofs.Math.Seq.{get_or-append_seam}
-use Rattle.std.proofs.lemmas.List.{append_assoc, length-append}
+use Rattle.std.proofs.lemmas.List.{length-append, map-append}
 use Rattle.std.proofs.lemmas.Bool.Decides.{nat_tests}
 use Rattle.protocol.specs.declared.party.Party.{Party}
 use Rattle.protocol.specs.declared.party.Beat.{Beat}
@@ -21,9 +21,13 @@ use Rattle.protocol.specs.Beats.{edge, edges, PutBy}
 use Rattle.protocol.specs.Deliveries.{delivery_of, granted_deliveries, receiver, ArrivedBy, IsEdgeOf, EdgesAreTheDeliveries}
 use Rattle.protocol.proofs.Asked.{asked_beat}
 use Rattle.protocol.proofs.Making.{some_number}
-use Rattle.protocol.proofs.Logs.{beat_edge, delivery, deliveries, after as edges_of, put_by, held}
-use Rattle.protocol.proofs.Records.{Grown, OwnedBy, further, follows, arrived_push, arrived_still, sent_still, plays}
+use Rattle.protocol.proofs.Logs.{beat_edge, delivery, deliveries}
+use Rattle.protocol.proofs.every.Logs.{deliveries_append, run_logged, held}
+use Rattle.protocol.proofs.Records.{Grown, OwnedBy, arrived_push, arrived_still, sent_still}
+use Rattle.protocol.proofs.every.Records.{grows}
 use Rattle.protocol.proofs.Runs.{run_of}
+use Rattle.protocol.proofs.Records.{grown_further}
+use Rattle.protocol.proofs.calls.Deliver.{follows_grow}
 
 -- a beat stands on one of three legs
 leg_as : (x y z : Bool) (p : Party) (b : Beat) → cond x p.legs.out (cond y p.legs.reply (cond z p.legs.entry None)) ≡ Some b → (x ≡ true → ⊥) → (y ≡ true → ⊥) → z ≡ true
@@ -81,22 +85,11 @@ module _ (rules : Rules) where
       )
 
   -- the steps before one of them, and those after it
-
   cut_before : (xs : List Step) (x : Step) (ys : List Step) (s s' : State) → Rehearsed rules s (xs ++ x ∷ ys) s' →
       let t = state_after rules (map call_of xs) s in
       Rehearsed rules s xs t × (number_told x.answer ≡ number rules x.call t) × Rehearsed rules (perform rules x.call t) ys s'
   cut_before [] x ys s s' h = (refl, h.0, h.1)
   cut_before (y ∷ xs) x ys s s' h = let r = cut_before xs x ys (perform rules y.call s) s' h.1 in ((h.0, r.0), r.1, r.2)
-
-  cut_edges : (xs : List Step) (x : Step) (ys : List Step) (s : State) →
-      let t = state_after rules (map call_of xs) s in
-      deliveries rules (map call_of (xs ++ x ∷ ys)) s
-      ≡ deliveries rules (map call_of xs) s ++ (delivery x.call (number rules x.call t) t ++ deliveries rules (map call_of ys) (perform rules x.call t))
-  cut_edges [] x ys s = refl
-  cut_edges (y ∷ xs) x ys s =
-      let u = perform rules y.call s in
-      let d = delivery y.call (number rules y.call s) s in
-      ap (λ es. d ++ es) (cut_edges xs x ys u) ∙ sym (append_assoc d (deliveries rules (map call_of xs) u) _)
 
   -- one delivery
 
@@ -105,7 +98,7 @@ module _ (rules : Rules) where
   arrives_as None i leg b s e h = absurd (grind arith)
   arrives_as (Some d) i leg b s e h =
       let t = s.table in
-      arrived_still _ _ t.clock (receiver leg i) (length s.log) (follows rules (λ _. ⊥) t.clock t.root leg d i (the i t) s.log h)
+      arrived_still _ _ t.clock (receiver leg i) (length s.log) (follows_grow rules (λ _. ⊥) t.clock t.root leg d i (the i t) s.log h)
       (arrived_push s.log t.clock (receiver leg i) d.place)
 
   arrives_at : (i leg k : ℕ) (b : Beat) (s : State) → k ≡ 0 → on_leg leg (the i s.table) ≡ Some b → i ≤ rules.plan.n →
@@ -149,20 +142,20 @@ module _ (rules : Rules) where
     later : Grown (OwnedBy rules.plan.n) then.log s.log
     later =
         subst (λ (t : State). Grown (OwnedBy rules.plan.n) then.log t.log) (sym (run_of rules then after s (subst (λ call. Rehearsed rules (perform rules call now) after s) is cut.2)).0)
-        (plays rules (map call_of after) then)
+        (grows rules then (map call_of after))
 
     is_edge : IsEdgeOf rules calls i leg s.log (edge stood.0.place (length now.log))
     is_edge =
         let b = stood.0 in
         let arrival = arrives_at i leg (number rules (Deliver i leg) now) b now granted stood.1 asked.1 in
-        let put : PutBy rules (opening rules) calls i leg b = put_by rules calls i leg b asked.0 asked.1 stood.1 in
+        let put : PutBy rules (opening rules) calls i leg b = (run_logged rules calls).put i leg b asked.0 asked.1 stood.1 in
         record {
           of_a_party = (asked.0, asked.1);
           of_a_leg = a_leg leg (the i now.table) b stood.1;
           arrival = arrived_still then.log s.log _ _ _ later arrival;
           not_yet = omega arith;
           written = arrival.below;
-          sending = sent_still now.log s.log _ _ (further _ _ _ _ (plays rules (Deliver i leg ∷ []) now) later) (held rules calls i leg b asked.0 asked.1 stood.1);
+          sending = sent_still now.log s.log _ _ (grown_further _ _ _ _ (grows rules now (Deliver i leg ∷ [])) later) (held rules calls i leg b asked.0 asked.1 stood.1);
           beat = b;
           stood = stood.1;
           sent_there = refl;
@@ -172,13 +165,14 @@ module _ (rules : Rules) where
     at_its_place : get_or (edges 0 s.log) (length (granted_deliveries before)) (edge 0 0) ≡ edge stood.0.place (length now.log)
     at_its_place =
         let e : edges 0 s.log ≡ deliveries rules (map call_of (before ++ x ∷ after)) (opening rules) =
-        ap (λ (t : State). edges 0 t.log) (run_of rules (opening rules) (before ++ x ∷ after) s h).0 ∙ (edges_of rules (map call_of (before ++ x ∷ after))).1 in
+        ap (λ (t : State). edges 0 t.log) (run_of rules (opening rules) (before ++ x ∷ after) s h).0 ∙ (run_logged rules (map call_of (before ++ x ∷ after))).edges in
         let d : delivery x.call (number rules x.call now) now ≡ edge stood.0.place (length now.log) ∷ [] =
         ap (λ call. delivery call (number rules call now) now) is ∙ edge_as i leg _ stood.0 now granted stood.1 in
         let es = deliveries rules (map call_of before) (opening rules) in
         let rest = deliveries rules (map call_of after) (perform rules x.call now) in
         ap (λ k. get_or (edges 0 s.log) k (edge 0 0)) (sym (as_many before (opening rules) now cut.0))
-        ∙ ap (λ fs. get_or fs (length es) (edge 0 0)) (e ∙ cut_edges before x after (opening rules) ∙ ap (λ fs. es ++ (fs ++ rest)) d)
+        ∙ ap (λ fs. get_or fs (length es) (edge 0 0)) (e ∙ ap (λ calls. deliveries rules calls (opening rules)) (map-append call_of before (x ∷ after))
+        ∙ deliveries_append rules (map call_of before) (x.call ∷ map call_of after) (opening rules) ∙ ap (λ fs. es ++ (fs ++ rest)) d)
         ∙ get_or-append_seam es (edge stood.0.place (length now.log)) rest (edge 0 0)
 
     pub shows_delivery : IsEdgeOf rules calls i leg s.log (get_or (edges 0 s.log) (length (granted_deliveries before)) (edge 0 0))
@@ -188,7 +182,7 @@ module _ (rules : Rules) where
   are_the_deliveries steps s h = record {
     as_many =
         ap (λ (t : State). length (edges 0 t.log)) (run_of rules (opening rules) steps s h).0
-        ∙ ap length (edges_of rules (map call_of steps)).1 ∙ as_many steps (opening rules) s h;
+        ∙ ap length (run_logged rules (map call_of steps)).edges ∙ as_many steps (opening rules) s h;
     each = λ before after x i leg among is ok.
         shows_delivery before after x i leg s (subst (λ xs. Rehearsed rules (opening rules) xs s) among h) is ok;
   }

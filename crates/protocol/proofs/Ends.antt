@@ -15,21 +15,19 @@ use Rattle.protocol.specs.declared.table.RootEnding.{RootEnding}
 use Rattle.protocol.specs.declared.kind.GroupKind.{GroupKind}
 use Rattle.protocol.specs.declared.plan.Plan.{Plan}
 use Rattle.pace.specs.Meaning.{Lawful}
-use Rattle.protocol.specs.State.{State, the, opening}
-use Rattle.protocol.specs.Runs.{state_after}
+use Rattle.protocol.specs.State.{State, the}
 use Rattle.protocol.specs.Rules.{Rules}
-use Rattle.protocol.specs.Laws.{RootFollows, PartiesFollow, StopsForCause, NobodyStopped, RunsEndTogetherForCause}
+use Rattle.protocol.specs.Laws.{RootFollows, PartiesFollow, StopsForCause, NobodyStopped}
 use Rattle.protocol.specs.Kept.{Terms, LawfulTerms, Kept, Scene, Whole, terms}
 use Rattle.protocol.proofs.Numbers.{lawful}
-use Rattle.protocol.proofs.Whole.{plays, opens}
 
 module _ (m : Terms) (kind : GroupKind) (law : LawfulTerms m kind) (q : Bool) (c : ℕ) (a l : ℕ) (p : Party) where
-  root_down : (r : Root) (how : Ending) (e : ℕ) (g : Stage) → Scene m c r a l → Kept m kind q c r a l p → p.note.roll ≡ On → p.own.standing ≡ Ended how e g → e + m.bears < c →
+  root_down : (r : Root) (how : Ending) (e : ℕ) (g : Stage) → Scene m c r a l → Kept m kind q c r a l p → p.note.roll ≡ On → p.own.standing ≡ Ended how e g → e + m.patience < c →
       (x : ℕ) × ((how : RootEnding) × (r ≡ Down how x))
   root_down Running how e g s k on end late = absurd (grind (arith, nat_tests))
   root_down (Down how' x) how e g s k on end late = (x, (how', refl))
 
-  party_down : (st : Standing) (r : ℕ) (how : RootEnding) → Kept m kind q c (Down how r) a l p → p.note.roll ≡ On → r + m.bears + m.tmin < c → p.own.standing ≡ st →
+  party_down : (st : Standing) (r : ℕ) (how : RootEnding) → Kept m kind q c (Down how r) a l p → p.note.roll ≡ On → r + m.patience + m.trip < c → p.own.standing ≡ st →
       (e : ℕ) × ((how : Ending) × (g : Stage) × (p.own.standing ≡ Ended how e g))
   party_down Outside r how k on late is = absurd (grind (arith, nat_tests))
   party_down (Live g) r how k on late is = absurd (grind (arith, nat_tests))
@@ -49,37 +47,29 @@ module _ (rules : Rules) (sound : Lawful rules.meaning) where
   law : LawfulTerms M plan.kind
   law = lawful rules.meaning sound plan.kind
 
-  root_follows : (q : Bool) (s : State) → Whole M plan.kind q plan.n s.table → RootFollows rules s
+  pub root_follows : (q : Bool) (s : State) → Whole M plan.kind q plan.n s.table → RootFollows rules s
   root_follows q s w = record {
     root_follows = λ i e lo hi on end late.
         root_down M plan.kind law q _ _ _ _ _ end.0 e end.1 w.scene (w.each (i - 1) (omega arith)) on end.2 late;
   }
 
-  parties_follow : (q : Bool) (s : State) → Whole M plan.kind q plan.n s.table → PartiesFollow rules s
+  pub parties_follow : (q : Bool) (s : State) → Whole M plan.kind q plan.n s.table → PartiesFollow rules s
   parties_follow q s w = record {
     parties_follow = λ r i down late lo hi on.
         party_down M plan.kind law q s.table.clock s.table.start s.table.length (the i s.table) (the i s.table).own.standing r down.0
         (subst (λ x. Kept M plan.kind q s.table.clock x s.table.start s.table.length (the i s.table)) down.1 (w.each (i - 1) (omega arith))) on late refl;
   }
 
-  stops_for_cause : (q : Bool) (s : State) → Whole M plan.kind q plan.n s.table → StopsForCause rules s
+  pub stops_for_cause : (q : Bool) (s : State) → Whole M plan.kind q plan.n s.table → StopsForCause rules s
   stops_for_cause q s w = record {
     stops_for_cause = λ i e lo hi is. for_cause M plan.kind law q _ _ _ _ s.table.root e (w.each (i - 1) (omega arith)) is;
   }
 
-  nobody_stopped : (s : State) → Whole M plan.kind true plan.n s.table → NobodyStopped rules s
-  nobody_stopped s w = record {
+  none_stopped : (s : State) → Whole M plan.kind true plan.n s.table → NobodyStopped rules s
+  none_stopped s w = record {
     root_not = λ e is. let k = w.each 0 plan.some in absurd (grind arith);
     party_not = λ i e g lo hi is. let k = w.each (i - 1) (omega arith) in absurd (grind arith);
   }
 
-pub laws : RunsEndTogetherForCause
-laws rules sound calls =
-    let s = state_after rules calls (opening rules) in
-    let w = plays rules sound true calls (opening rules) (opens rules sound true) in
-    record {
-      root_follows = root_follows rules sound _ s w;
-      parties_follow = parties_follow rules sound _ s w;
-      stops_for_cause = stops_for_cause rules sound _ s w;
-      none_stops_unharmed = λ e. nobody_stopped rules sound s (subst (λ b. Whole (terms rules.meaning rules.plan.kind) rules.plan.kind b rules.plan.n s.table) e w);
-    }
+  pub nobody_stopped : (q : Bool) (s : State) → Whole M plan.kind q plan.n s.table → q ≡ true → NobodyStopped rules s
+  nobody_stopped q s w good = none_stopped s (subst (λ q. Whole M plan.kind q plan.n s.table) good w)

@@ -1,41 +1,24 @@
--- Each call of a run keeps the beats and the log together.
-use Rattle.std.proofs.Common.{◌≡◌, ℕ, zero, suc, ◌+◌, ◌-◌, ◌<◌, ◌≤◌, Bool, true, false, cond, ◌||◌, eqb, leb, ◌⊎◌, List, [], ◌∷◌, ◌++◌, length, get_or, set, Some, None, Option, sym, refl, ap, ◌∙◌, subst, inl, inr, arith, length-set}
-use lib.ListN.{get_or-replicate}
-use Rattle.std.proofs.lemmas.List.{append-nil, append_assoc, length_push, get_or_append_left}
+-- What holds between the log and the beats on the legs, when one party has changed and after a pass.
+use Rattle.std.proofs.Common.{Bool, List, None, Option, Some, [], ap, arith, cond, false, get_or, inl, inr, leb, length, length-set, refl, set, subst, suc, sym, true, zero, ℕ, ◌++◌, ◌+◌, ◌-◌, ◌<◌, ◌||◌, ◌∙◌, ◌∷◌, ◌≡◌, ◌≤◌, ◌⊎◌}
+use Rattle.std.proofs.lemmas.List.{append-nil, get_or_append_left, length_push}
 use Rattle.std.proofs.lemmas.Bool.Decides.{nat_tests}
 use Rattle.protocol.specs.declared.party.Party.{Party}
 use Rattle.protocol.specs.declared.party.Beat.{Beat}
-use Rattle.protocol.specs.declared.party.Stage.{Stage}
-use Rattle.protocol.specs.declared.party.Stage.TheVariants.{Joining, In, Leaving}
-use Rattle.protocol.specs.declared.party.Standing.{Standing}
-use Rattle.protocol.specs.declared.party.Standing.TheVariants.{Outside, Live, Ended}
-use Rattle.protocol.specs.declared.party.Roll.{Roll}
-use Rattle.protocol.specs.declared.party.Roll.TheVariants.{Off, On, Struck}
-use Rattle.protocol.specs.declared.table.Root.{Root}
-use Rattle.protocol.specs.declared.table.Root.TheVariants.{Running, Down}
-use Rattle.protocol.specs.declared.kind.GroupKind.{GroupKind}
-use Rattle.protocol.specs.declared.happening.HappeningKind.TheVariants.{Sent, Arrived, Lost}
 use Rattle.protocol.specs.declared.happening.Happening.{Happening}
 use Rattle.protocol.specs.declared.call.Call.{Call}
-use Rattle.protocol.specs.declared.call.Call.TheVariants.{Tick, Deliver, Lose, Crash, Join, Leave}
+use Rattle.protocol.specs.declared.call.Call.TheVariants.{Crash, Deliver, Join, Leave, Lose, Tick}
 use Rattle.pace.specs.Meaning.{Meaning}
-use Rattle.protocol.specs.Rules.{trip, patience, Rules}
+use Rattle.protocol.specs.Rules.{Rules}
 use Rattle.protocol.specs.Walk.{folds, walks}
-use Rattle.protocol.specs.Party.{nobody, fresh, on_leg, off_leg, off_out, off_reply, off_entry, on_roll, live}
-use Rattle.protocol.specs.calls.Deliver.{arrives, hears_as, heeds, answer_log, after_arrival}
-use Rattle.protocol.specs.calls.Join.{joined, after_join}
-use Rattle.protocol.specs.calls.Tick.{missed, sends, sends_as, missed_all, times, times_as, times_live, calls_in, any, shortest, after_count, send_log, after_sending, after_stop, after_start, after_verdict_of, after_round_if, after_round, round_ends, live_word, tells_if, timer_log, after_timers, after_clock, after_tick}
-use Rattle.protocol.specs.State.{State, the, happening, with_record, with_linked, runs, opening}
-use Rattle.protocol.specs.calls.Lose.{sender, after_loss_of}
-use Rattle.protocol.specs.calls.Crash.{after_crash}
-use Rattle.protocol.specs.calls.Leave.{after_leave}
-use Rattle.protocol.specs.Runs.{number, effect, unless, perform, state_after}
-use Rattle.protocol.specs.Beats.{is_arrival, is_loss, settles, nothing, happening_at, SentBy, OtherEnd, Linked, LossesLinked, SettledOnce, Unsettled, Edge, edge, edges, PutBy}
+use Rattle.protocol.specs.Party.{nobody, off_leg, on_leg}
+use Rattle.protocol.specs.State.{State, the}
+use Rattle.protocol.specs.calls.Lose.{sender}
+use Rattle.protocol.specs.Runs.{number, perform}
+use Rattle.protocol.specs.Beats.{Edge, Linked, LossesLinked, OtherEnd, SentBy, SettledOnce, Unsettled, edge, edges, happening_at, is_arrival, is_loss, nothing, settles}
 use Rattle.protocol.specs.Order.{InOrder}
-use Rattle.protocol.proofs.Onward.{Onward, stay, further, told, arrived, edges_same, sent_push, keeps_push, every_push, order_push, linked_push, losses_push, onward_linked, onward_losses, folds_onward, folds_between}
-use Rattle.protocol.proofs.Legs.{New, Turned, off_others, off_gone, stays, put_out, put_reply, put_entry}
-use Rattle.protocol.proofs.Asked.{asked_party, asked_low}
-use Rattle.protocol.proofs.Lifts.{set_each, set_two, walks_long, walks_at, folds_next}
+use Rattle.protocol.proofs.Onward.{Onward, every_push, folds_between, folds_onward, keeps_push, linked_push, losses_push, onward_linked, onward_losses, order_push, stay}
+use Rattle.protocol.proofs.Legs.{New, Turned, off_gone, off_others}
+use Rattle.protocol.proofs.Lifts.{folds_next, set_each, set_two, walks_at, walks_long}
 
 -- the edge of a beat that arrives at place k
 abbrev pub beat_edge : Option Beat → ℕ → List Edge
@@ -127,7 +110,7 @@ module _ (o : Moment) (n c w : ℕ) (ps ps' : List Party) (log log' : List Happe
       t.once j k lt b.0 (ap (λ (x : Happening). settles x.kind) (sym a.1) ∙ is_j) (ap (λ (x : Happening). settles x.kind) (sym b.1) ∙ is_k)
       (ap (λ (x : Happening). x.link) (sym a.1) ∙ same ∙ ap (λ (x : Happening). x.link) b.1)
 
-  moves : Told o n c ps' log'
+  pub moves : Told o n c ps' log'
   moves = record {
     since = omega (arith, t.since, grown.longer);
     older = λ k leg b h e. elim (turned k leg b h e) [ inl old ↦ t.older k leg b h old | inr new ↦ inr (omega (arith, t.since, new.0.fresh)) ];
@@ -146,7 +129,7 @@ module _ (o : Moment) (n c : ℕ) where
   T ps log = Told o n c ps log
 
   -- one party has changed from a to b, and no other
-  turns_two : (w i : ℕ) (a b : Party) (ps : List Party) (log log' : List Happening) → 1 ≤ i → i ≤ n → Onward c log log' → T (set ps (i - 1) a) log →
+  pub turns_two : (w i : ℕ) (a b : Party) (ps : List Party) (log log' : List Happening) → 1 ≤ i → i ≤ n → Onward c log log' → T (set ps (i - 1) a) log →
       Turned w i (length log) log' a b → T (set ps (i - 1) b) log'
   turns_two w i a b ps log log' lo hi grown t change =
       moves o n c w (set ps (i - 1) a) (set ps (i - 1) b) log log' (λ k x. k ≡ i - 1) grown t (λ j k x e f. e ∙ sym f)
@@ -155,7 +138,7 @@ module _ (o : Moment) (n c : ℕ) where
       (λ f. inl f))
       (omega (arith, length-set ps (i - 1) a, length-set ps (i - 1) b, t.long))
 
-  turns_one : (w i : ℕ) (b : Party) (ps : List Party) (log log' : List Happening) → 1 ≤ i → i ≤ n → Onward c log log' → T ps log →
+  pub turns_one : (w i : ℕ) (b : Party) (ps : List Party) (log log' : List Happening) → 1 ≤ i → i ≤ n → Onward c log log' → T ps log →
       Turned w i (length log) log' (get_or ps (i - 1) nobody) b → T (set ps (i - 1) b) log'
   turns_one w i b ps log log' lo hi grown t change =
       moves o n c w ps (set ps (i - 1) b) log log' (λ k x. k ≡ i - 1) grown t (λ j k x e f. e ∙ sym f)
@@ -166,15 +149,15 @@ module _ (o : Moment) (n c : ℕ) where
       (omega (arith, length-set ps (i - 1) b, t.long))
 
   -- no leg has changed
-  idles : (ps : List Party) (log log' : List Happening) → Onward c log log' → T ps log → T ps log'
-  idles ps log log' grown t = moves o n c 0 ps ps log log' (λ k x. k ≡ 0) grown t (λ j k x e f. e ∙ sym f) (λ k leg d h f. inl f) t.long
+  pub log_idles : (ps : List Party) (log log' : List Happening) → Onward c log log' → T ps log → T ps log'
+  log_idles ps log log' grown t = moves o n c 0 ps ps log log' (λ k x. k ≡ 0) grown t (λ j k x e f. e ∙ sym f) (λ k leg d h f. inl f) t.long
 
   -- a pass over the parties, each of which may send a beat on leg w
-  passes : (w : ℕ) (f : ℕ → List Happening → Party → Party) (g : ℕ → List Happening → Party → List Happening) →
+  pub log_passes : (w : ℕ) (f : ℕ → List Happening → Party → Party) (g : ℕ → List Happening → Party → List Happening) →
       ((j : ℕ) (log : List Happening) (p : Party) → Onward c log (g j log p)) →
       ((j : ℕ) (log : List Happening) (p : Party) → Turned w j (length log) (g j log p) p (f j log p)) →
       (ps : List Party) (log : List Happening) → T ps log → T (walks f g 1 n log ps) (folds g 1 n log ps)
-  passes w f g grows turn ps log t =
+  log_passes w f g grows turn ps log t =
       moves o n c w ps (walks f g 1 n log ps) log (folds g 1 n log ps) Between (folds_onward c g grows 1 n log ps) t differ
       (λ k leg b h e. elim (turn (k + 1) (stop k) (get_or ps k nobody) leg b (subst (λ p. on_leg leg p ≡ Some b) (walks_at f g 1 n log ps nobody k h t.long) e))
       [ inl old ↦ inl old | inr new ↦ inr (taken k leg b h new) ])
@@ -228,8 +211,8 @@ module _ (o : Moment) (n c : ℕ) where
     unsettled : Unsettled log b.place
     unsettled = t.under_way (i - 1) x b (omega arith) held
 
-    settles_it : (is_arrival h.kind ≡ true → (o : ℕ) × SentBy log o h.link × OtherEnd n o h.owner) → (is_loss h.kind ≡ true → SentBy log h.owner h.link) → T ps' log'
-    settles_it arrival loss = record {
+    pub log_settles : (is_arrival h.kind ≡ true → (o : ℕ) × SentBy log o h.link × OtherEnd n o h.owner) → (is_loss h.kind ≡ true → SentBy log h.owner h.link) → T ps' log'
+    log_settles arrival loss = record {
       since = omega (arith, t.since, length_push log h);
       older = λ k leg d below e. t.older k leg d below (remains k leg d e).0;
       order = order_push log h c at_c t.order;
@@ -254,86 +237,9 @@ module _ (o : Moment) (n c : ℕ) where
 
 -- the records that a call writes after the arrival or the loss
 module _ (c : ℕ) where
-  cond_onward : (b : Bool) (log grown : List Happening) → Onward c log grown → Onward c log (cond b grown log)
+  pub cond_onward : (b : Bool) (log grown : List Happening) → Onward c log grown → Onward c log (cond b grown log)
   cond_onward true log grown w = w
   cond_onward false log grown w = stay c log
-
-  answer_onward : (roll : Roll) (b : Bool) (i : ℕ) (log : List Happening) → Onward c log (answer_log roll b c i log)
-  answer_onward Struck b i log = stay c log
-  answer_onward On true i log = told c log _ refl refl
-  answer_onward Off true i log = told c log _ refl refl
-  answer_onward On false i log = stay c log
-  answer_onward Off false i log = told c log _ refl refl
-
-  silent_onward : (g : Stage) (i : ℕ) (log : List Happening) → Onward c log (tells_if (live_word true false g) c i log)
-  silent_onward Joining i log = told c log _ refl refl
-  silent_onward In i log = told c log _ refl refl
-  silent_onward Leaving i log = told c log _ refl refl
-
-  live_onward : (ends calls : Bool) (g : Stage) (i : ℕ) (log : List Happening) → Onward c log (tells_if (live_word ends calls g) c i log)
-  live_onward true calls g i log = silent_onward g i log
-  live_onward false true g i log = told c log _ refl refl
-  live_onward false false g i log = stay c log
-
-  timer_onward : (st : Standing) (patience tmin since i : ℕ) (log : List Happening) → Onward c log (timer_log st c patience tmin since i log)
-  timer_onward Outside d l h i log = stay c log
-  timer_onward (Live g) d l h i log = live_onward (leb d (c - h)) (calls_in g l (c - h)) g i log
-  timer_onward (Ended how at g) d l h i log = stay c log
-
-  -- the turn of one party in a pass
-
-  sends_turn : (roll : Roll) (last j : ℕ) (p : Party) (log : List Happening) →
-      Turned 1 j (length log) (cond (on_roll roll) (with_record c 0 Sent log) log) p (sends_as roll last (length log) p)
-  sends_turn On last j p log = put_out j _ _ p _ (omega arith) (sent_push log c 0 _)
-  sends_turn Off last j p log = stays j _ _ 1 p
-  sends_turn Struck last j p log = stays j _ _ 1 p
-
-  live_turn : (ends calls : Bool) (g : Stage) (last i : ℕ) (p : Party) (log : List Happening) →
-      Turned 3 i (length log) (tells_if (live_word ends calls g) c i log) p (times_live ends calls g c last (length log) p)
-  live_turn true calls g last i p log = stays i _ _ 3 p
-  live_turn false true g last i p log = put_entry i _ _ p _ (omega arith) (sent_push log c i _)
-  live_turn false false g last i p log = stays i _ _ 3 p
-
-  timer_turn : (st : Standing) (d l last i : ℕ) (p : Party) (log : List Happening) →
-      Turned 3 i (length log) (timer_log st c d l p.own.since i log) p (times_as st c d l last (length log) p)
-  timer_turn Outside d l last i p log = stays i _ _ 3 p
-  timer_turn (Live g) d l last i p log = live_turn (leb d (c - p.own.since)) (calls_in g l (c - p.own.since)) g last i p log
-  timer_turn (Ended how at g) d l last i p log = stays i _ _ 3 p
-
-  -- what follows an arrival
-
-  follows_onward : (x : Bool) (r : Root) (i place : ℕ) (b : Beat) (p : Party) (log : List Happening) →
-      Onward c (with_linked c (cond x i 0) Arrived place log)
-      (cond x
-      (cond (live p.own.standing) (with_record c i Sent (with_linked c i Arrived place log)) (with_linked c i Arrived place log))
-      (cond (runs r) (answer_log p.note.roll b.parting c i (with_linked c 0 Arrived place log)) (with_linked c 0 Arrived place log)))
-  follows_onward true r i place b p log = cond_onward (live p.own.standing) _ _ (told c _ _ refl refl)
-  follows_onward false r i place b p log = cond_onward (runs r) _ _ (answer_onward p.note.roll b.parting i _)
-
-  hears_turn : (st : Standing) (i place l : ℕ) (p : Party) (log : List Happening) →
-      Turned 2 i (length (with_linked c i Arrived place log)) (cond (live st) (with_record c i Sent (with_linked c i Arrived place log)) (with_linked c i Arrived place log))
-      p (hears_as st c (length log + 1) l p)
-  hears_turn Outside i place l p log = stays i _ _ 2 p
-  hears_turn (Live g) i place l p log =
-      let e = length_push log (happening c i Arrived place) in
-      put_reply i _ _ p _ (omega (arith, e)) (subst (SentBy (with_record c i Sent (with_linked c i Arrived place log)) i) e (sent_push (with_linked c i Arrived place log) c i _))
-  hears_turn (Ended how at g) i place l p log = stays i _ _ 2 p
-
-  heeds_turn : (r : Root) (parting : Bool) (i lo : ℕ) (log : List Happening) (p : Party) → Turned 2 i lo log p (heeds r parting p)
-  heeds_turn Running parting i lo log p = stays i lo log 2 p
-  heeds_turn (Down how at) parting i lo log p = stays i lo log 2 p
-
-  follows_turn : (x y z : Bool) (r : Root) (b : Beat) (i : ℕ) (p : Party) (log : List Happening) →
-      let off = cond x (off_out p) (cond y (off_reply p) (cond z (off_entry p) p)) in
-      Turned 2 i (length (with_linked c (cond x i 0) Arrived b.place log))
-      (cond x
-      (cond (live p.own.standing) (with_record c i Sent (with_linked c i Arrived b.place log)) (with_linked c i Arrived b.place log))
-      (cond (runs r) (answer_log p.note.roll b.parting c i (with_linked c 0 Arrived b.place log)) (with_linked c 0 Arrived b.place log)))
-      off (cond x (hears_as p.own.standing c (length log + 1) b.last (off_out p)) (cond y (heeds r b.parting (off_reply p)) (cond z (heeds r b.parting (off_entry p)) p)))
-  follows_turn true y z r b i p log = hears_turn p.own.standing i b.place b.last (off_out p) log
-  follows_turn false true z r b i p log = heeds_turn r b.parting i _ _ (off_reply p)
-  follows_turn false false true r b i p log = heeds_turn r b.parting i _ _ (off_entry p)
-  follows_turn false false false r b i p log = stays i _ _ 2 p
 
 module _ (o : Moment) (rules : Rules) where
   abbrev n : ℕ
@@ -342,265 +248,22 @@ module _ (o : Moment) (rules : Rules) where
   abbrev m : Meaning
   m = rules.meaning
 
-  abbrev Holds : State → Type 0
-  Holds s = Told o n s.table.clock s.table.parties s.log
+  abbrev pub LogHolds : State → Type 0
+  LogHolds s = Told o n s.table.clock s.table.parties s.log
 
   -- after a call: what holds, and the edges that came
-  abbrev Next : State → State → List Edge → Type 0
-  Next s s' es = Holds s' × (edges 0 s'.log ≡ edges 0 s.log ++ es)
+  abbrev pub LogNext : State → State → List Edge → Type 0
+  LogNext s s' es = LogHolds s' × (edges 0 s'.log ≡ edges 0 s.log ++ es)
 
   -- a call that neither delivers nor loses
-  abbrev Goes : State → State → Type 0
-  Goes s s' = Holds s' × Onward s.table.clock s.log s'.log
+  abbrev pub LogGoes : State → State → Type 0
+  LogGoes s s' = LogHolds s' × Onward s.table.clock s.log s'.log
 
-  quietly : (s s' : State) → Holds s' → edges 0 s'.log ≡ edges 0 s.log → Next s s' []
-  quietly s s' t e = (t, e ∙ sym (append-nil (edges 0 s.log)))
+  pub log_quietly : (s s' : State) → LogHolds s' → edges 0 s'.log ≡ edges 0 s.log → LogNext s s' []
+  log_quietly s s' t e = (t, e ∙ sym (append-nil (edges 0 s.log)))
 
-  onward : (s s' : State) → Goes s s' → Next s s' []
-  onward s s' g = quietly s s' g.0 g.1.same
+  pub log_onward : (s s' : State) → LogGoes s s' → LogNext s s' []
+  log_onward s s' g = log_quietly s s' g.0 g.1.same
 
-  pub held_at : (s : State) (i leg : ℕ) (b : Beat) → 1 ≤ i → i ≤ n → Holds s → on_leg leg (the i s.table) ≡ Some b → SentBy s.log (sender leg i) b.place
+  pub held_at : (s : State) (i leg : ℕ) (b : Beat) → 1 ≤ i → i ≤ n → LogHolds s → on_leg leg (the i s.table) ≡ Some b → SentBy s.log (sender leg i) b.place
   held_at s i leg b lo hi t e = subst (λ j. SentBy s.log (sender leg j) b.place) (omega arith) (t.carried (i - 1) leg b (omega arith) e)
-
-  ends_of : (x : Bool) (i : ℕ) → 1 ≤ i → i ≤ n → OtherEnd n (cond x 0 i) (cond x i 0)
-  ends_of true i lo hi = record { at_root = λ e. absurd (omega arith); at_party = λ e. (hi, refl) }
-  ends_of false i lo hi = record { at_root = λ e. (lo, hi); at_party = λ e. absurd (omega arith) }
-
-  delivers : (x : Option Beat) (i leg : ℕ) (s : State) → on_leg leg (the i s.table) ≡ x → 1 ≤ i → i ≤ n → Holds s → Next s (after_arrival x i leg s) (beat_edge x (length s.log))
-  delivers None i leg s e lo hi t = (t, sym (append-nil (edges 0 s.log)))
-  delivers (Some b) i leg s e lo hi t =
-      let c = s.table.clock in
-      let r = s.table.root in
-      let p = the i s.table in
-      let x = eqb leg 1 in
-      let h = happening c (cond x i 0) Arrived b.place in
-      let w = follows_onward c x r i b.place b p s.log in
-      let arrival = settles_it o n c i leg b h s.table.parties s.log lo hi t e refl refl
-      (λ _. (cond x 0 i, held_at s i leg b lo hi t e, ends_of x i lo hi)) (λ is. absurd (grind arith)) in (
-        turns_two o n c 2 i (off_leg leg p) (arrives c r leg b (length s.log + 1) p) s.table.parties (with_linked c (cond x i 0) Arrived b.place s.log) _ lo hi w arrival
-            (follows_turn c x (eqb leg 2) (eqb leg 3) r b i p s.log),
-        w.same ∙ arrived s.log c (cond x i 0) b.place,
-      )
-
-  loses_one : (x : Option Beat) (i leg : ℕ) (s : State) → on_leg leg (the i s.table) ≡ x → 1 ≤ i → i ≤ n → Holds s → Next s (after_loss_of x i leg s) []
-  loses_one None i leg s e lo hi t = quietly s s t refl
-  loses_one (Some b) i leg s e lo hi t =
-      let h = happening s.table.clock (sender leg i) Lost b.place in
-      quietly s (after_loss_of (Some b) i leg s)
-      (settles_it o n _ i leg b h s.table.parties s.log lo hi t e refl refl (λ is. absurd (grind arith)) (λ _. held_at s i leg b lo hi t e)) (edges_same s.log h refl)
-
-  crashes_one : (i : ℕ) (s : State) → i ≤ n → Holds s → Next s (after_crash i s) []
-  crashes_one zero s hi t =
-      let w = told s.table.clock s.log (happening s.table.clock 0 _ (length s.log)) refl refl in onward s (after_crash zero s) (idles o n _ s.table.parties s.log _ w t, w)
-  crashes_one (suc i) s hi t =
-      let w = told s.table.clock s.log (happening s.table.clock (suc i) _ (length s.log)) refl refl in
-      onward s (after_crash (suc i) s) (turns_one o n _ 0 (suc i) _ s.table.parties s.log _ (omega arith) hi w t (stays (suc i) _ _ 0 (the (suc i) s.table)), w)
-
-  leaves_one : (i : ℕ) (s : State) → 1 ≤ i → i ≤ n → Holds s → Next s (after_leave i s) []
-  leaves_one i s lo hi t =
-      let w = told s.table.clock s.log (happening s.table.clock i _ (length s.log)) refl refl in
-      onward s (after_leave i s) (turns_one o n _ 0 i _ s.table.parties s.log _ lo hi w t (stays i _ _ 0 (the i s.table)), w)
-
-  joins_one : (i : ℕ) (s : State) → 1 ≤ i → i ≤ n → Holds s → Next s (after_join (trip rules.meaning) i s) []
-  joins_one i s lo hi t =
-      let c = s.table.clock in
-      let joining = with_record c i _ s.log in
-      let w = further c s.log joining (with_record c i Sent joining) (told c s.log _ refl refl) (told c joining _ refl refl) in
-      let e = length_push s.log (happening c i _ (length s.log)) in
-      onward s (after_join (trip rules.meaning) i s) (
-        turns_one o n c 3 i (joined c (c + trip m) (length s.log + 1) (the i s.table)) s.table.parties s.log _ lo hi w t
-            (put_entry i _ _ (the i s.table) _ (omega arith) (subst (SentBy (with_record c i Sent joining) i) e (sent_push joining c i _))),
-        w,
-      )
-
-  -- a tick
-
-  counts : (s : State) → Holds s → Goes s (after_count n s)
-  counts s t =
-      let f = λ (_ u : ℕ) (p : Party). missed p in
-      let g = λ (_ u : ℕ) (_ : Party). u in
-      let w = stay s.table.clock s.log in (
-        moves o n s.table.clock 0 s.table.parties (after_count n s).table.parties s.log s.log (λ k x. k ≡ 0) w t (λ j k x e f. e ∙ sym f)
-            (λ k leg b h e. inl (subst (λ p. on_leg leg p ≡ Some b) (walks_at f g 1 n 0 s.table.parties nobody k h t.long) e))
-            (walks_long f g 1 n 0 s.table.parties n t.long),
-        w,
-      )
-
-  starts : (last : ℕ) (s : State) → Holds s → Goes s (after_sending last n s)
-  starts last s t =
-      let c = s.table.clock in
-      let grows : (j : ℕ) (log : List Happening) (p : Party) → Onward c log (send_log c log p) = λ j log p. cond_onward c (on_roll p.note.roll) _ _ (told c log _ refl refl) in (
-        passes o n c 1 (λ _ log p. sends last (length log) p) (λ _ log p. send_log c log p) grows (λ j log p. sends_turn c p.note.roll last j p log) s.table.parties s.log t,
-        folds_onward c (λ _ log p. send_log c log p) grows 1 n s.log s.table.parties,
-      )
-
-  stops : (s : State) → Holds s → Goes s (after_stop s)
-  stops s t =
-      let w = told s.table.clock s.log (happening s.table.clock 0 _ (length s.log)) refl refl in (idles o n _ s.table.parties s.log _ w t, w)
-
-  settles_round : (b : Bool) (s : State) → Holds s → Goes s (after_verdict_of b rules s)
-  settles_round true s t = stops s t
-  settles_round false s t = starts (s.table.clock + trip m) (after_start (shortest m.waits m.tmax n s.table.parties) s) t
-
-  rounds : (b : Bool) (s : State) → Holds s → Goes s (after_round_if b rules s)
-  rounds true s t = settles_round (any (missed_all (length m.waits)) n (after_count n s).table.parties) (after_count n s) (counts s t).0
-  rounds false s t = (t, stay s.table.clock s.log)
-
-  times_all : (d l x : ℕ) (s : State) → Holds s → Goes s (after_timers d l x n s)
-  times_all d l x s t =
-      let c = s.table.clock in
-      let f = λ (_ : ℕ) (log : List Happening) (p : Party). times c d l (c + x) (length log) p in
-      let g = λ (i : ℕ) (log : List Happening) (p : Party). timer_log p.own.standing c d l p.own.since i log in
-      let grows : (j : ℕ) (log : List Happening) (p : Party) → Onward c log (g j log p) = λ j log p. timer_onward c p.own.standing d l p.own.since j log in (
-        passes o n c 3 f g grows (λ j log p. timer_turn c p.own.standing d l (c + x) j p log) s.table.parties s.log t,
-        folds_onward c g grows 1 n s.log s.table.parties,
-      )
-
-  -- the clock gains 1
-  ages : (c : ℕ) (ps : List Party) (log : List Happening) → Told o n c ps log → Told o n (c + 1) ps log
-  ages c ps log t = record {
-    since = t.since;
-    older = t.older;
-    order = record { rises = t.order.rises; none_later = λ k h. omega (arith, t.order.none_later k h) };
-    linked = t.linked;
-    losses = t.losses;
-    once = t.once;
-    carried = t.carried;
-    under_way = t.under_way;
-    apart = t.apart;
-    long = t.long;
-  }
-
-  ticks : (s : State) → Holds s → Next s (after_tick rules s) []
-  ticks s t =
-      let a = rounds (round_ends s.table) s t in
-      let b = times_all (patience m rules.plan.kind) m.tmin (trip m) (after_round rules s) a.0 in
-      quietly s (after_tick rules s) (ages _ _ _ b.0) (b.1.same ∙ a.1.same)
-
-module _ (rules : Rules) where
-  does : (o : Moment) (call : Call) (s : State) → number rules call s ≡ 0 → Holds o rules s → Next o rules s (effect rules call s) (delivery call 0 s)
-  does o Tick s e t = ticks o rules s t
-  does o (Deliver i leg) s e t = let a = asked_party rules.plan.n i _ e in delivers o rules (on_leg leg (the i s.table)) i leg s refl a.0 a.1 t
-  does o (Lose i leg) s e t = let a = asked_party rules.plan.n i _ e in loses_one o rules (on_leg leg (the i s.table)) i leg s refl a.0 a.1 t
-  does o (Crash i) s e t = crashes_one o rules i s (asked_low rules.plan.n i _ e) t
-  does o (Join i) s e t = let a = asked_party rules.plan.n i _ e in joins_one o rules i s a.0 a.1 t
-  does o (Leave i) s e t = let a = asked_party rules.plan.n i _ e in leaves_one o rules i s a.0 a.1 t
-
-  refused : (call : Call) (k : ℕ) (s : State) → delivery call (suc k) s ≡ []
-  refused Tick k s = refl
-  refused (Deliver i leg) k s = refl
-  refused (Lose i leg) k s = refl
-  refused (Crash i) k s = refl
-  refused (Join i) k s = refl
-  refused (Leave i) k s = refl
-
-  performs : (o : Moment) (call : Call) (s : State) (k : ℕ) → number rules call s ≡ k → Holds o rules s → Next o rules s (unless k s (effect rules call s)) (delivery call k s)
-  performs o call s zero e t = does o call s e t
-  performs o call s (suc k) e t = (t, sym (append-nil (edges 0 s.log)) ∙ ap (λ es. edges 0 s.log ++ es) (sym (refused call k s)))
-
-  -- what holds since any moment holds since the present one
-  holds_now : (o : Moment) (s : State) → Holds o rules s → Holds (at s) rules s
-  holds_now o s t = record {
-    since = omega arith;
-    older = λ k leg b h e. inl e;
-    order = t.order;
-    linked = t.linked;
-    losses = t.losses;
-    once = t.once;
-    carried = t.carried;
-    under_way = t.under_way;
-    apart = t.apart;
-    long = t.long;
-  }
-
-  abbrev Now : State → Type 0
-  Now s = Holds (at s) rules s
-
-  plays : (calls : List Call) (s : State) → Now s → let s' = state_after rules calls s in Now s' × (edges 0 s'.log ≡ edges 0 s.log ++ deliveries rules calls s)
-  plays [] s t = (t, sym (append-nil (edges 0 s.log)))
-  plays (call ∷ calls) s t =
-      let k = number rules call s in
-      let s' = perform rules call s in
-      let a = performs (at s) call s k refl t in
-      let b = plays calls s' (holds_now (at s) s' a.0) in
-      (b.0, b.1 ∙ ap (λ es. es ++ deliveries rules calls s') a.1 ∙ append_assoc (edges 0 s.log) (delivery call k s) (deliveries rules calls s'))
-
-  -- a beat on a leg stood there before the calls, or one of them put it there
-  pub puts : (calls : List Call) (s : State) (i leg : ℕ) (b : Beat) → Now s → 1 ≤ i → i ≤ rules.plan.n → on_leg leg (the i (state_after rules calls s).table) ≡ Some b →
-      (on_leg leg (the i s.table) ≡ Some b) ⊎ PutBy rules s calls i leg b
-  puts [] s i leg b t lo hi e = inl e
-  puts (call ∷ calls) s i leg b t lo hi e =
-      elim (puts calls s' i leg b t' lo hi e) [
-        | inl old ↦ first old
-        | inr after_clock ↦ inr (record {
-          before = call ∷ after_clock.before;
-          call = after_clock.call;
-          after = after_clock.after;
-          among = ap (λ cs. call ∷ cs) after_clock.among;
-          not_yet = after_clock.not_yet;
-          written = after_clock.written;
-          put = after_clock.put;
-        })
-      ]
-    where
-      s' : State
-      s' = perform rules call s
-
-      made : Next (at s) rules s s' (delivery call (number rules call s) s)
-      made = performs (at s) call s (number rules call s) refl t
-
-      t' : Now s'
-      t' = holds_now (at s) s' made.0
-
-      first : on_leg leg (the i s'.table) ≡ Some b → (on_leg leg (the i s.table) ≡ Some b) ⊎ PutBy rules s (call ∷ calls) i leg b
-      first now = elim (made.0.older (i - 1) leg b (omega arith) now) [
-        | inl old ↦ inl old
-        | inr fresh ↦ inr (record {
-          before = [];
-          call = call;
-          after = calls;
-          among = refl;
-          not_yet = fresh;
-          written = held_at (at s') rules s' i leg b lo hi t' now;
-          put = now;
-        })
-      ]
-
-  -- a new group has nothing on its legs
-
-  bare : (kind : GroupKind) (x y z : Bool) (b : Beat) → cond x (fresh kind).legs.out (cond y (fresh kind).legs.reply (cond z (fresh kind).legs.entry None)) ≡ Some b → ⊥
-  bare kind x y z b e = grind arith
-
-  empty : (k leg : ℕ) (b : Beat) → k < rules.plan.n → on_leg leg (get_or (opening rules).table.parties k nobody) ≡ Some b → ⊥
-  empty k leg b h e =
-      bare rules.plan.kind (eqb leg 1) (eqb leg 2) (eqb leg 3) b
-      (subst (λ p. on_leg leg p ≡ Some b) (get_or-replicate 32 k (fresh rules.plan.kind) nobody (omega (arith, rules.plan.few))) e)
-
-  opens : Now (opening rules)
-  opens = record {
-    since = omega arith;
-    older = λ k leg b h e. inl e;
-    order = record { rises = λ i j d le lt. absurd (omega arith); none_later = λ k h. absurd (omega arith) };
-    linked = λ k h is. absurd (omega arith);
-    losses = λ k h is. absurd (omega arith);
-    once = λ j k lt h. absurd (omega arith);
-    carried = λ k leg b h e. absurd (empty k leg b h e);
-    under_way = λ k leg b h e. absurd (empty k leg b h e);
-    apart = λ k leg b k' leg' b' h h' e e' same. absurd (empty k leg b h e);
-    long = omega (arith, rules.plan.few);
-  }
-
-  -- what holds after every run, and the edges of its log
-  pub after : (calls : List Call) → let s = state_after rules calls (opening rules) in Now s × (edges 0 s.log ≡ deliveries rules calls (opening rules))
-  after calls = plays calls (opening rules) opens
-
-  -- a beat on a leg of a new group's run was put there by one of its calls
-  pub put_by : (calls : List Call) (i leg : ℕ) (b : Beat) → 1 ≤ i → i ≤ rules.plan.n → on_leg leg (the i (state_after rules calls (opening rules)).table) ≡ Some b →
-      PutBy rules (opening rules) calls i leg b
-  put_by calls i leg b lo hi e =
-      elim (puts calls (opening rules) i leg b opens lo hi e) [ inl old ↦ absurd (empty (i - 1) leg b (omega arith) old) | inr put ↦ put ]
-
-  -- and the log holds its sending
-  pub held : (calls : List Call) (i leg : ℕ) (b : Beat) → 1 ≤ i → i ≤ rules.plan.n → let s = state_after rules calls (opening rules) in
-      on_leg leg (the i s.table) ≡ Some b → SentBy s.log (sender leg i) b.place
-  held calls i leg b lo hi e = let s = state_after rules calls (opening rules) in held_at (at s) rules s i leg b lo hi (after calls).0 e

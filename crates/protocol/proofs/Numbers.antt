@@ -4,13 +4,13 @@ use Rattle.std.proofs.lemmas.List.Sums.{sum_by-drop_more, sum_by-take-drop, get_
 use Rattle.protocol.specs.declared.kind.GroupKind.{GroupKind}
 use Rattle.protocol.specs.declared.kind.GroupKind.TheVariants.{Closed, Expanding, Dynamic}
 use Rattle.pace.specs.Meaning.{Meaning, Lawful}
-use Rattle.protocol.specs.Rules.{patience}
-use Rattle.protocol.specs.Kept.{LawfulTerms, Bears, terms}
+use Rattle.protocol.specs.Rules.{trip, patience}
+use Rattle.protocol.specs.Kept.{LawfulTerms, IsPatience, terms}
 
-bears_it : (m : Meaning) (kind : GroupKind) → Bears kind (patience m kind) (m.tmax + sum m.waits) m.tmin
-bears_it m Closed = omega arith
-bears_it m Expanding = refl
-bears_it m Dynamic = refl
+is_patience : (m : Meaning) (kind : GroupKind) → IsPatience kind (patience m kind) (m.tmax + sum m.waits) (trip m)
+is_patience m Closed = omega arith
+is_patience m Expanding = refl
+is_patience m Dynamic = refl
 
 -- the first wait is tmax
 first_wait : (m : Meaning) → Lawful m → m.tmax ≤ sum m.waits
@@ -21,7 +21,9 @@ lawful m h kind = record {
   low = h.low;
   ordered = h.ordered;
   some = h.some;
-  bears = bears_it m kind;
+  takes_time = h.low;
+  trip_within = omega arith;
+  patience = is_patience m kind;
   first = first_wait m h;
   whole = refl;
   step = λ k below. rw (← add-one k) (sum_by-drop_more (λ x. x) m.waits k 0 below);

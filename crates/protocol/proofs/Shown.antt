@@ -11,22 +11,24 @@ use Rattle.protocol.specs.State.{State, the, opening}
 use Rattle.protocol.specs.calls.Deliver.{after_arrival}
 use Rattle.protocol.specs.calls.Lose.{after_loss_of}
 use Rattle.protocol.specs.Questions.{asks, is_own_log, log_asks, is_party}
-use Rattle.protocol.specs.Runs.{number, effect, unless, perform, state_after}
+use Rattle.protocol.specs.Runs.{number, effect, state_after, run_state}
 use Rattle.std.specs.Prelude.{is_some}
 use Rattle.protocol.specs.calls.Join.{may_join, is_outside}
 use Rattle.protocol.specs.calls.Leave.{may_leave, is_in}
 use Rattle.protocol.specs.calls.Crash.{can_crash}
-use Rattle.protocol.specs.Beats.{is_arrival, happening_at, Edge, edge, edges, SourcesDiffer, BeatsAreLogged, RunsSettleEachSendingOnce}
-use Rattle.protocol.specs.Order.{RunsKeepTheirLogInOrder}
-use Rattle.protocol.proofs.Logs.{at, after, held_at}
+use Rattle.protocol.specs.Beats.{is_arrival, happening_at, Edge, edge, edges, SourcesDiffer, BeatsAreLogged, SendingsSettleOnce}
+use Rattle.protocol.specs.Order.{LogInOrder}
+use Rattle.protocol.proofs.Logs.{at, held_at}
+use Rattle.protocol.proofs.every.Logs.{run_logged}
 use Rattle.protocol.proofs.Own.{owns}
-use Rattle.protocol.proofs.Records.{owned}
+use Rattle.protocol.proofs.every.Records.{owned}
+use Rattle.protocol.proofs.Runs.{every_state}
 
 -- in every run the beats are logged
 pub logs_beats : (rules : Rules) (calls : List Call) → BeatsAreLogged rules (state_after rules calls (opening rules))
 logs_beats rules calls =
     let s = state_after rules calls (opening rules) in
-    let t = (after rules calls).0 in
+    let t = (run_logged rules calls).told in
     record { on_legs = λ i leg b lo hi e. held_at (at s) rules s i leg b lo hi t e; arrivals = t.linked; losses = t.losses }
 
 -- the edge at i is of an arrival of the log
@@ -66,23 +68,23 @@ arrival_settles : (a b : Bool) → a ≡ true → (a || b) ≡ true
 arrival_settles true b e = refl
 arrival_settles false b e = absurd (grind arith)
 
-pub settle_once : RunsSettleEachSendingOnce
-settle_once rules sound calls =
-    let t = (after rules calls).0 in
+pub settle_once : (rules : Rules) (calls : List Call) → SendingsSettleOnce rules (run_state rules calls)
+settle_once rules calls =
+    let t = (run_logged rules calls).told in
     record {
       once = t.once;
       sources_differ = sources 0 _ (λ j k lt h is_j is_k. t.once j k lt h (arrival_settles _ _ is_j) (arrival_settles _ _ is_k));
       under_way = λ i leg b lo hi. t.under_way (i - 1) leg b (omega arith);
-      apart = λ i leg b i' leg' b' lo hi lo' hi' e e' same.
+      apart = λ i leg b lo hi e i' leg' b' lo' hi' e' same.
           let z = t.apart (i - 1) leg b (i' - 1) leg' b' (omega arith) (omega arith) e e' same in (omega (arith, z.0), z.1);
     }
 
 -- the table counts the records
 
-module _ (rules : Rules) where
-  abbrev Counts : State → Type 0
-  Counts s = s.table.logged ≡ length s.log
+abbrev Counts : State → Type 0
+Counts s = s.table.logged ≡ length s.log
 
+module _ (rules : Rules) where
   counts_delivery : (o : Option Beat) (i leg : ℕ) (s : State) → Counts s → Counts (after_arrival o i leg s)
   counts_delivery None i leg s e = e
   counts_delivery (Some b) i leg s e = refl
@@ -99,14 +101,6 @@ module _ (rules : Rules) where
   counts_done (Crash (suc i)) s e = refl
   counts_done (Join i) s e = refl
   counts_done (Leave i) s e = refl
-
-  counts_performed : (k : ℕ) (call : Call) (s : State) → Counts s → Counts (unless k s (effect rules call s))
-  counts_performed zero call s e = counts_done call s e
-  counts_performed (suc k) call s e = e
-
-  counts_played : (calls : List Call) (s : State) → Counts s → Counts (state_after rules calls s)
-  counts_played [] s e = e
-  counts_played (call ∷ calls) s e = counts_played calls (perform rules call s) (counts_performed (number rules call s) call s e)
 
 -- the questions on the log never answer 13, and so no question before them
 
@@ -137,9 +131,9 @@ never_another rules (Crash i) s own e = log_asked 2 rules.room s own (passed_two
 never_another rules (Join i) s own e = log_asked 2 rules.room s own (passed_three (is_party rules.plan.n i) (may_join rules.plan.kind) (is_outside (the i s.table).own.standing) _ e)
 never_another rules (Leave i) s own e = log_asked 2 rules.room s own (passed_three (is_party rules.plan.n i) (may_leave rules.plan.kind) (is_in (the i s.table).own.standing) _ e)
 
-pub in_order : RunsKeepTheirLogInOrder
-in_order rules sound calls =
+pub in_order : (rules : Rules) (calls : List Call) → LogInOrder rules (run_state rules calls)
+in_order rules calls =
     let s = state_after rules calls (opening rules) in
-    let o = (after rules calls).0.order in
-    let e = counts_played rules calls (opening rules) refl in
+    let o = (run_logged rules calls).told.order in
+    let e = every_state rules (opening rules) Counts (λ call s z e. counts_done rules call s e) refl calls in
     record { in_order = o; owned = owned rules calls; counted = e; never_another = λ room call. never_another (record rules { room = room }) call s (owns s o e) }

@@ -12,7 +12,7 @@ use Rattle.protocol.specs.State.{State, the, opening}
 use Rattle.protocol.specs.calls.Deliver.{after_arrival}
 use Rattle.protocol.specs.calls.Lose.{after_loss_of}
 use Rattle.protocol.specs.Runs.{number, perform, effect, unless}
-use Rattle.protocol.specs.Rehearsals.{Rehearsed, adds, granted_ticks, RunsCountTheirTicks}
+use Rattle.protocol.specs.Rehearsals.{Rehearsed, adds, granted_ticks}
 use Rattle.protocol.proofs.Clock.{ticked_clock}
 use Rattle.protocol.proofs.Making.{some_number}
 
@@ -55,5 +55,5 @@ module _ (rules : Rules) where
   clock_on [] s s' h = omega (arith, ap (λ (t : State). t.table.clock) h)
   clock_on (x ∷ xs) s s' h = omega (arith, performed_clock x.call s x.answer h.0, clock_on xs (perform rules x.call s) s' h.1)
 
-pub counts_ticks : RunsCountTheirTicks
+pub counts_ticks : (rules : Rules) (steps : List Step) (s : State) → Rehearsed rules (opening rules) steps s → s.table.clock ≡ granted_ticks steps
 counts_ticks rules steps s h = omega (arith, clock_on rules steps (opening rules) s h)

@@ -9,12 +9,11 @@ use Rattle.protocol.specs.declared.call.Call.TheVariants.{Tick, Deliver, Lose, C
 use Rattle.protocol.specs.calls.Tick.{LegsFreeAtTick}
 use Rattle.protocol.specs.calls.Deliver.{ReplyLegFree}
 use Rattle.protocol.specs.calls.Join.{EntryLegFree}
-use Rattle.pace.specs.Meaning.{Lawful}
 use Rattle.protocol.specs.Party.{on_leg}
 use Rattle.protocol.specs.Rules.{Rules}
 use Rattle.protocol.specs.State.{State, the, happening, opening}
 use Rattle.protocol.specs.calls.Lose.{sender}
-use Rattle.protocol.specs.Runs.{number, perform, state_after}
+use Rattle.protocol.specs.Runs.{perform, state_after}
 
 abbrev pub is_arrival : HappeningKind → Bool
 is_arrival Sent = false
@@ -77,7 +76,8 @@ pub record LostAt (log : List Happening) (k : ℕ) (h : Happening) : Type 0 wher
 
 -- each record of such a kind is, with its place, as Q says
 abbrev pub Each : (HappeningKind → Bool) → (ℕ → Happening → Type 0) → List Happening → Type 0
-Each is Q log = (k : ℕ) → k < length log → is (happening_at log k).kind ≡ true → Q k (happening_at log k)
+Each is Q log =
+    (k : ℕ) → k < length log → is (happening_at log k).kind ≡ true → Q k (happening_at log k)
 
 abbrev pub Linked : ℕ → List Happening → Type 0
 Linked n log = Each is_arrival (LinkedAt n log) log
@@ -98,40 +98,52 @@ abbrev pub edges : ℕ → List Happening → List Edge
 edges k [] = []
 edges k (h ∷ log) = cond (is_arrival h.kind) (edge h.link k ∷ edges (suc k) log) (edges (suc k) log)
 
--- each beat on a leg and each arrival goes back to a sending by the right end, each loss to one by its owner
+-- Q says of each beat on a leg of a party of the plan
+abbrev pub EachBeat : Rules → State → (ℕ → ℕ → Beat → Type 0) → Type 0
+EachBeat rules s Q =
+    (i leg : ℕ) (b : Beat) → 1 ≤ i → i ≤ rules.plan.n → on_leg leg (the i s.table) ≡ Some b →
+    Q i leg b
+
+-- each beat on a leg and each arrival goes back to a sending by the right end,
+-- each loss to one by its owner
 pub record BeatsAreLogged (rules : Rules) (s : State) : Type 0 where
-  pub on_legs : (i leg : ℕ) (b : Beat) → 1 ≤ i → i ≤ rules.plan.n → on_leg leg (the i s.table) ≡ Some b → SentBy s.log (sender leg i) b.place
+  pub on_legs : EachBeat rules s (λ i leg b. SentBy s.log (sender leg i) b.place)
   pub arrivals : Linked rules.plan.n s.log
   pub losses : LossesLinked s.log
 
 -- no two arrivals or losses link to the same place
 abbrev pub SettledOnce : List Happening → Type 0
 SettledOnce log =
-    (j k : ℕ) → j < k → k < length log → settles (happening_at log j).kind ≡ true → settles (happening_at log k).kind ≡ true → (happening_at log j).link ≢ (happening_at log k).link
+    (j k : ℕ) → j < k → k < length log →
+    settles (happening_at log j).kind ≡ true → settles (happening_at log k).kind ≡ true →
+    (happening_at log j).link ≢ (happening_at log k).link
 
 -- no arrival or loss links to the place
 abbrev pub Unsettled : List Happening → ℕ → Type 0
-Unsettled log place = (k : ℕ) → k < length log → settles (happening_at log k).kind ≡ true → (happening_at log k).link ≢ place
+Unsettled log place =
+    (k : ℕ) → k < length log → settles (happening_at log k).kind ≡ true →
+    (happening_at log k).link ≢ place
 
 -- no two edges come from the same place
 abbrev pub SourcesDiffer : List Edge → Type 0
-SourcesDiffer es = (j k : ℕ) → j < k → k < length es → (get_or es j (edge 0 0)).source ≢ (get_or es k (edge 0 0)).source
+SourcesDiffer es =
+    (j k : ℕ) → j < k → k < length es →
+    (get_or es j (edge 0 0)).source ≢ (get_or es k (edge 0 0)).source
 
--- no sending arrives or is lost twice, none whose beat is on a leg has arrived or been lost, and beats on different legs have different sendings
+-- no sending arrives or is lost twice, none whose beat is on a leg has arrived or been lost,
+-- and beats on different legs have different sendings
 pub record SendingsSettleOnce (rules : Rules) (s : State) : Type 0 where
   pub once : SettledOnce s.log
   pub sources_differ : SourcesDiffer (edges 0 s.log)
-  pub under_way : (i leg : ℕ) (b : Beat) → 1 ≤ i → i ≤ rules.plan.n → on_leg leg (the i s.table) ≡ Some b → Unsettled s.log b.place
-  pub apart : (i leg : ℕ) (b : Beat) (i' leg' : ℕ) (b' : Beat) → 1 ≤ i → i ≤ rules.plan.n → 1 ≤ i' → i' ≤ rules.plan.n →
-      on_leg leg (the i s.table) ≡ Some b → on_leg leg' (the i' s.table) ≡ Some b' → b.place ≡ b'.place → (i ≡ i') × (leg ≡ leg')
+  pub under_way : EachBeat rules s (λ i leg b. Unsettled s.log b.place)
+  pub apart :
+      EachBeat rules s (λ i leg b. EachBeat rules s (λ i' leg' b'.
+      b.place ≡ b'.place → (i ≡ i') × (leg ≡ leg')))
 
--- in every run no sending is the source of two
-abbrev pub RunsSettleEachSendingOnce : Type 0
-RunsSettleEachSendingOnce =
-    (rules : Rules) → Lawful rules.meaning → (calls : List Call) → SendingsSettleOnce rules (state_after rules calls (opening rules))
-
--- the call among these, made from s₀ on, that put the beat b on a leg of party i: it wrote the record of its sending
-pub record PutBy (rules : Rules) (s₀ : State) (calls : List Call) (i leg : ℕ) (b : Beat) : Type 0 where
+-- the call among these, made from s₀ on, that put the beat b on a leg of party i:
+-- it wrote the record of its sending
+pub record PutBy (rules : Rules) (s₀ : State) (calls : List Call)
+    (i leg : ℕ) (b : Beat) : Type 0 where
   pub before : List Call
   pub call : Call
   pub after : List Call
@@ -141,11 +153,10 @@ pub record PutBy (rules : Rules) (s₀ : State) (calls : List Call) (i leg : ℕ
   pub written : SentBy (perform rules call (state_after rules before s₀)).log (sender leg i) b.place
   pub put : on_leg leg (the i (perform rules call (state_after rules before s₀)).table) ≡ Some b
 
--- in every run, each beat on a leg was put there by the call that wrote the record of its sending
-abbrev pub RunsPutEachBeatWithItsSending : Type 0
-RunsPutEachBeatWithItsSending =
-    (rules : Rules) → Lawful rules.meaning → (calls : List Call) (i leg : ℕ) (b : Beat) → 1 ≤ i → i ≤ rules.plan.n →
-    on_leg leg (the i (state_after rules calls (opening rules)).table) ≡ Some b → PutBy rules (opening rules) calls i leg b
+-- each beat on a leg was put there by the call that wrote the record of its sending
+abbrev pub PutWithTheirSendings : Rules → List Call → State → Type 0
+PutWithTheirSendings rules calls s =
+    EachBeat rules s (λ i leg b. PutBy rules (opening rules) calls i leg b)
 
 -- the legs on which the call puts a beat are free
 abbrev pub FreeFor : Rules → Call → State → Type 0
@@ -155,9 +166,3 @@ FreeFor rules (Lose i leg) s = Unit {0}
 FreeFor rules (Crash i) s = Unit {0}
 FreeFor rules (Join i) s = EntryLegFree i s
 FreeFor rules (Leave i) s = Unit {0}
-
--- no call of a run puts a beat on a leg that holds one
-abbrev pub BeatsTakeFreeLegs : Type 0
-BeatsTakeFreeLegs =
-    (rules : Rules) → Lawful rules.meaning → (calls : List Call) (call : Call) →
-    number rules call (state_after rules calls (opening rules)) ≡ 0 → FreeFor rules call (state_after rules calls (opening rules))

@@ -1,6 +1,5 @@
 -- The deliveries of a run, told from its steps, and what its log shows of each.
 use Rattle.std.specs.Prelude.{◌≡◌, ℕ, ◌<◌, ◌≤◌, Bool, cond, List, [], ◌∷◌, ◌++◌, map, length, get_or, Some, ◌==◌, is_ok, IsOk}
-use Rattle.pace.specs.Meaning.{Lawful}
 use Rattle.protocol.specs.declared.party.Beat.{Beat}
 use Rattle.protocol.specs.declared.happening.HappeningKind.TheVariants.{Arrived}
 use Rattle.protocol.specs.declared.happening.Happening.{Happening}
@@ -9,11 +8,11 @@ use Rattle.protocol.specs.declared.call.Call.TheVariants.{Tick, Deliver, Lose, C
 use Rattle.protocol.specs.declared.call.Step.{Step}
 use Rattle.protocol.specs.Party.{on_leg}
 use Rattle.protocol.specs.Rules.{Rules}
-use Rattle.protocol.specs.State.{State, the, opening}
+use Rattle.protocol.specs.State.{the, opening}
 use Rattle.protocol.specs.calls.Lose.{sender}
 use Rattle.protocol.specs.Runs.{perform, run_state}
-use Rattle.protocol.specs.Rehearsals.{Rehearsed, call_of}
-use Rattle.protocol.specs.Beats.{happening_at, SentBy, Edge, edge, edges, PutBy, BeatsAreLogged}
+use Rattle.protocol.specs.Rehearsals.{call_of}
+use Rattle.protocol.specs.Beats.{happening_at, SentBy, Edge, edge, PutBy}
 
 -- a delivery: the party and its leg whose beat arrives
 pub record Delivery : Type 0 where
@@ -74,10 +73,3 @@ pub record EdgesAreTheDeliveries (rules : Rules) (steps : List Step)
       steps ≡ before ++ (x ∷ after) → x.call ≡ Deliver i leg → IsOk x.answer →
       IsEdgeOf rules (map call_of before) i leg log
       (get_or es (length (granted_deliveries before)) (edge 0 0))
-
--- in every run the beats are logged, and the edges of the log are the granted deliveries
-abbrev pub RunsShowTheirBeats : Type 0
-RunsShowTheirBeats =
-    (rules : Rules) → Lawful rules.meaning → (steps : List Step) (s : State) →
-    Rehearsed rules (opening rules) steps s →
-    BeatsAreLogged rules s × EdgesAreTheDeliveries rules steps s.log (edges 0 s.log)

@@ -1,8 +1,9 @@
--- The invariant of runs: what holds of each party and of the round between the calls. Only the proofs of the laws need it.
--- In what follows c is the clock, r the root, a and l the start and the length of the round, h the tick when the party last heard.
+-- The invariant of runs: what holds of each party and of the round between the calls.
+-- Only the proofs of the laws need it. In what follows c is the clock, r the root, a and l the start
+-- and the length of the round, h the tick when the party last heard.
 use Rattle.std.specs.Prelude.{◌≡◌, ℕ, suc, ◌+◌, ◌-◌, ◌%◌, ◌<◌, ◌≤◌, Bool, true, false, length, drop, Some, None, sum, Option, slice_index, slice_index_or}
 use Rattle.pace.specs.Meaning.{Meaning}
-use Rattle.protocol.specs.Rules.{patience}
+use Rattle.protocol.specs.Rules.{trip, patience}
 use Rattle.protocol.specs.Party.{nobody}
 use Rattle.protocol.specs.declared.table.Table.{Table}
 use Rattle.protocol.specs.declared.party.Party.{Party}
@@ -23,29 +24,33 @@ use Rattle.protocol.specs.declared.table.Root.TheVariants.{Running, Down}
 use Rattle.protocol.specs.declared.kind.GroupKind.{GroupKind}
 use Rattle.protocol.specs.declared.kind.GroupKind.TheVariants.{Closed, Expanding, Dynamic}
 
--- the numbers of a pace and a kind: the limits, the sum of the waits, their number, the patience of a party,
--- the wait at a place, and the sum of the waits from a place on
+-- the numbers of a pace and a kind: the limits, the longest time that a beat is under way,
+-- the sum of the waits, their number, the patience of a party, the wait at a place,
+-- and the sum of the waits from a place on
 pub record Terms : Type 0 where
   pub tmin : ℕ
   pub tmax : ℕ
+  pub trip : ℕ
   pub total : ℕ
   pub span : ℕ
-  pub bears : ℕ
+  pub patience : ℕ
   pub wait : ℕ → ℕ
   pub rest : ℕ → ℕ
 
--- the patience d is x where the group is closed, otherwise tmin more
-abbrev pub Bears : GroupKind → ℕ → ℕ → ℕ → Type 0
-Bears Closed d x tmin = d ≡ x
-Bears Expanding d x tmin = d ≡ x + tmin
-Bears Dynamic d x tmin = d ≡ x + tmin
+-- the patience d is x where the group is closed, otherwise a trip more
+abbrev pub IsPatience : GroupKind → ℕ → ℕ → ℕ → Type 0
+IsPatience Closed d x trip = d ≡ x
+IsPatience Expanding d x trip = d ≡ x + trip
+IsPatience Dynamic d x trip = d ≡ x + trip
 
 -- what a lawful pace gives of its numbers
 pub record LawfulTerms (m : Terms) (kind : GroupKind) : Type 0 where
   pub low : 1 ≤ m.tmin
   pub ordered : m.tmin ≤ m.tmax
   pub some : 1 ≤ m.span
-  pub bears : Bears kind m.bears (m.tmax + m.total) m.tmin
+  pub takes_time : 1 ≤ m.trip
+  pub trip_within : m.trip ≤ m.tmin
+  pub patience : IsPatience kind m.patience (m.tmax + m.total) m.trip
   pub first : m.tmax ≤ m.total
   pub whole : m.rest 0 ≡ m.total
   pub step : (k : ℕ) → k < m.span → m.rest k ≡ m.wait k + m.rest (suc k)
@@ -157,7 +162,8 @@ By (Live In) h d x = x ≤ h + d
 By (Live Leaving) h d x = x ≤ h + d
 By (Ended how e s) h d x = x ≤ e + d
 
--- a running root has missed less than all rounds of a party; where the party is on the roll, the root's deadline for it, x and the rest of the waits, lies within P
+-- a running root has missed less than all rounds of a party; where the party is on the roll,
+-- the root's deadline for it, x and the rest of the waits, lies within P
 abbrev pub Pressed : Root → Roll → Bool → (ℕ → Type 0) → ℕ → Terms → ℕ → ℕ → Type 0
 Pressed (Down how e) roll heard P x m l n = Unit {0}
 Pressed Running Off heard P x m l n = n < m.span
@@ -173,12 +179,12 @@ Patient (Ended how e s) c h d = Unit {0}
 
 -- a party on the roll hears nothing for long after the root's end
 abbrev pub After : Root → Roll → Standing → ℕ → ℕ → Type 0
-After Running roll st h tmin = Unit {0}
-After (Down how e) Off st h tmin = Unit {0}
-After (Down how e) Struck st h tmin = Unit {0}
-After (Down how e) On Outside h tmin = Unit {0}
-After (Down how e) On (Live s) h tmin = h ≤ e + tmin
-After (Down how e) On (Ended how' e' s) h tmin = Unit {0}
+After Running roll st h trip = Unit {0}
+After (Down how e) Off st h trip = Unit {0}
+After (Down how e) Struck st h trip = Unit {0}
+After (Down how e) On Outside h trip = Unit {0}
+After (Down how e) On (Live s) h trip = h ≤ e + trip
+After (Down how e) On (Ended how' e' s) h trip = Unit {0}
 
 -- the root ended no later than x
 abbrev pub EndedBy : Root → ℕ → Type 0
@@ -236,32 +242,36 @@ Called (Live Leaving) o x = Unit {0}
 Called (Ended how e s) o x = Unit {0}
 
 -- a joining beat goes out each time so many ticks have passed since the joining
-abbrev pub Beckoned : ℕ → ℕ → Standing → ℕ → Option Beat → Type 0
-Beckoned tmin c Outside h o = Unit {0}
-Beckoned tmin c (Live Joining) h None = Unit {0}
-Beckoned tmin c (Live Joining) h (Some b) = ((b.last - h) % tmin ≡ 0) × (h < c → b.last < c + tmin)
-Beckoned tmin c (Live In) h o = Unit {0}
-Beckoned tmin c (Live Leaving) h o = Unit {0}
-Beckoned tmin c (Ended how e s) h o = Unit {0}
+abbrev pub Beckoned : ℕ → ℕ → ℕ → Standing → ℕ → Option Beat → Type 0
+Beckoned tmin trip c Outside h o = Unit {0}
+Beckoned tmin trip c (Live Joining) h None = Unit {0}
+Beckoned tmin trip c (Live Joining) h (Some b) =
+    (h + trip ≤ b.last) × ((b.last - (h + trip)) % tmin ≡ 0) × (h < c → b.last < c + trip)
+Beckoned tmin trip c (Live In) h o = Unit {0}
+Beckoned tmin trip c (Live Leaving) h o = Unit {0}
+Beckoned tmin trip c (Ended how e s) h o = Unit {0}
 
--- where each loss and crash was refused: a joining party's call is under way, and a party on the roll has missed nothing, lives and will be heard
+-- where each loss and crash was refused: a joining party's call is under way,
+-- and a party on the roll has missed nothing, lives and will be heard
 abbrev pub Trusted : Roll → Note → Own → Legs → ℕ → ℕ → ℕ → ℕ → Type 0
-Trusted Off n o g tmin d a l = Called o.standing g.entry (o.since + tmin)
-Trusted On n o g tmin d a l =
-    (n.misses ≡ 0) × Alive o.standing × Word n.heard g.out g.reply × Ahead g.out (a + tmin) l (o.since + d)
-Trusted Struck n o g tmin d a l = Unit {0}
+Trusted Off n o g trip d a l = Called o.standing g.entry (o.since + trip)
+Trusted On n o g trip d a l =
+    (n.misses ≡ 0) × Alive o.standing × Word n.heard g.out g.reply
+    × Ahead g.out (a + trip) l (o.since + d)
+Trusted Struck n o g trip d a l = Unit {0}
 
 -- where each loss and crash was refused (the Bool), the root runs and nobody has crashed or stopped
 abbrev pub Clean : Bool → Root → Note → Own → Legs → ℕ → ℕ → ℕ → ℕ → Type 0
-Clean false r n o g tmin d a l = Unit {0}
-Clean true r n o g tmin d a l = Up r × Well o.standing × Trusted n.roll n o g tmin d a l
+Clean false r n o g trip d a l = Unit {0}
+Clean true r n o g trip d a l = Up r × Well o.standing × Trusted n.roll n o g trip d a l
 
 -- the clock is in the round of a running root, and not before the end of another
 abbrev pub Timely : Root → ℕ → ℕ → ℕ → Type 0
 Timely Running c a l = c ≤ a + l
 Timely (Down how e) c a l = (e ≤ c) × (a ≤ e)
 
--- the round: its length lies between the limits, it began not after the clock, and the clock is in it
+-- the round: its length lies between the limits, it began not after the clock,
+-- and the clock is in it
 pub record Scene (m : Terms) (c : ℕ) (r : Root) (a l : ℕ) : Type 0 where
   pub long : m.tmin ≤ l
   pub short : l ≤ m.tmax
@@ -269,17 +279,18 @@ pub record Scene (m : Terms) (c : ℕ) (r : Root) (a l : ℕ) : Type 0 where
   pub timely : Timely r c a l
 
 -- what holds of one party p; q says that each loss and crash so far was refused
-pub record Kept (m : Terms) (kind : GroupKind) (q : Bool) (c : ℕ) (r : Root) (a l : ℕ) (p : Party) : Type 0 where
+pub record Kept (m : Terms) (kind : GroupKind) (q : Bool) (c : ℕ) (r : Root) (a l : ℕ)
+    (p : Party) : Type 0 where
   -- it last heard not after the clock
   pub past : p.own.since ≤ c
   -- a beat out from the root is of this round and may still arrive
-  pub out : Out c (a + m.tmin) p.legs.out
+  pub out : Out c (a + m.trip) p.legs.out
   -- so is a reply
-  pub reply : Reply c (a + m.tmin) a p.own.since p.legs.reply
+  pub reply : Reply c (a + m.trip) a p.own.since p.legs.reply
   -- a beat is out or its reply is back, not both
   pub alone : Alone p.legs.out p.legs.reply
   -- a joining beat may still arrive, and was not sent after the party was in or had ended
-  pub entry : Entry c (sent_by p.own.standing c p.own.since + m.tmin) p.legs.entry
+  pub entry : Entry c (sent_by p.own.standing c p.own.since + m.trip) p.legs.entry
   -- its roll and its legs go with where it stands
   pub placed : Placed p.own.standing p.note.roll p.legs
   -- in a closed group it is in, or ended from there
@@ -287,26 +298,29 @@ pub record Kept (m : Terms) (kind : GroupKind) (q : Bool) (c : ℕ) (r : Root) (
   -- its end came not after the clock, and not before it last heard
   pub finished : Finished p.own.standing c p.own.since
   -- a running root stops within the patience of a party on the roll that is heard no more
-  pub pressed : Pressed r p.note.roll p.note.heard (By p.own.standing p.own.since m.bears) (a + l) m l p.note.misses
+  pub pressed :
+      Pressed r p.note.roll p.note.heard (By p.own.standing p.own.since m.patience)
+      (a + l) m l p.note.misses
   -- a live party has not outlived its patience
-  pub patient : Patient p.own.standing c p.own.since m.bears
+  pub patient : Patient p.own.standing c p.own.since m.patience
   -- a party on the roll hears nothing for long after the root's end
-  pub after : After r p.note.roll p.own.standing p.own.since m.tmin
+  pub after : After r p.note.roll p.own.standing p.own.since m.trip
   -- a party that stopped while it was in did so after the root's end
   pub cause : Cause p.own.standing r
   -- joining beats go out every tmin ticks from the joining on
-  pub beckoned : Beckoned m.tmin c p.own.standing p.own.since p.legs.entry
+  pub beckoned : Beckoned m.tmin m.trip c p.own.standing p.own.since p.legs.entry
   -- where each loss and crash was refused, nobody has crashed or stopped
-  pub spared : Clean q r p.note p.own p.legs m.tmin m.bears a l
+  pub spared : Clean q r p.note p.own p.legs m.trip m.patience a l
 
 -- the numbers of a pace in a group of such a kind
 abbrev pub terms : Meaning → GroupKind → Terms
 terms m kind = record {
   tmin = m.tmin;
   tmax = m.tmax;
+  trip = trip m;
   total = sum m.waits;
   span = length m.waits;
-  bears = patience m kind;
+  patience = patience m kind;
   wait = λ k. slice_index m.waits k;
   rest = λ k. sum (drop k m.waits);
 }
@@ -314,5 +328,7 @@ terms m kind = record {
 -- what holds of the round and of each of the first n parties
 pub record Whole (m : Terms) (kind : GroupKind) (q : Bool) (n : ℕ) (t : Table) : Type 0 where
   pub scene : Scene m t.clock t.root t.start t.length
-  pub each : (k : ℕ) → k < n → Kept m kind q t.clock t.root t.start t.length (slice_index_or t.parties k nobody)
+  pub each :
+      (k : ℕ) → k < n →
+      Kept m kind q t.clock t.root t.start t.length (slice_index_or t.parties k nobody)
   pub long : n ≤ length t.parties

@@ -10,7 +10,10 @@ group_number Expanding = 2
 group_number Dynamic = 3
 
 abbrev pub group_kind : ℕ → Option GroupKind
-group_kind b = cond (b == 1) (Some Closed) (cond (b == 2) (Some Expanding) (cond (b == 3) (Some Dynamic) None))
+group_kind b =
+    cond (b == 1) (Some Closed)
+    (cond (b == 2) (Some Expanding)
+    (cond (b == 3) (Some Dynamic) None))
 
 -- 16: is the kind a known value?
 abbrev pub unknown_number : UnknownKind → ℕ

@@ -1,5 +1,5 @@
 -- How the parties of a run end: together, and for cause.
-use Rattle.std.specs.Prelude.{◌≡◌, ℕ, ◌+◌, ◌<◌, ◌≤◌, true, List, ◌≢◌}
+use Rattle.std.specs.Prelude.{◌≡◌, ℕ, ◌+◌, ◌<◌, ◌≤◌, ◌≢◌}
 use Rattle.protocol.specs.declared.party.Party.{Party}
 use Rattle.protocol.specs.declared.party.Stage.{Stage}
 use Rattle.protocol.specs.declared.party.Stage.TheVariants.{In}
@@ -10,11 +10,8 @@ use Rattle.protocol.specs.declared.party.Roll.TheVariants.{On}
 use Rattle.protocol.specs.declared.table.Root.TheVariants.{Down}
 use Rattle.protocol.specs.declared.table.RootEnding.{RootEnding}
 use Rattle.protocol.specs.declared.table.RootEnding.TheVariants.{Stopped as RootStopped}
-use Rattle.protocol.specs.declared.call.Call.{Call}
-use Rattle.pace.specs.Meaning.{Lawful}
 use Rattle.protocol.specs.Rules.{trip, patience, Rules}
-use Rattle.protocol.specs.State.{State, the, opening}
-use Rattle.protocol.specs.Runs.{state_after, numbers, unharmed}
+use Rattle.protocol.specs.State.{State, the}
 
 abbrev pub OnRoll : Party → Type 0
 OnRoll p = p.note.roll ≡ On
@@ -36,28 +33,19 @@ pub record RootFollows (rules : Rules) (s : State) : Type 0 where
 -- where the root has ended, each party on the roll ends within its patience and one trip
 pub record PartiesFollow (rules : Rules) (s : State) : Type 0 where
   pub parties_follow :
-      (r i : ℕ) → RootEndedAt s r → r + patience rules.meaning rules.plan.kind + trip rules.meaning < s.table.clock →
+      (r i : ℕ) → RootEndedAt s r →
+      r + patience rules.meaning rules.plan.kind + trip rules.meaning < s.table.clock →
       1 ≤ i → i ≤ rules.plan.n → OnRoll (the i s.table) → (e : ℕ) × EndedAt (the i s.table) e
 
 -- a party that was in stops only after the root has ended
 pub record StopsForCause (rules : Rules) (s : State) : Type 0 where
   pub stops_for_cause :
-      (i e : ℕ) → 1 ≤ i → i ≤ rules.plan.n → (the i s.table).own.standing ≡ Ended Stopped e In → (r : ℕ) × RootEndedAt s r × (r ≤ e)
+      (i e : ℕ) → 1 ≤ i → i ≤ rules.plan.n → (the i s.table).own.standing ≡ Ended Stopped e In →
+      (r : ℕ) × RootEndedAt s r × (r ≤ e)
 
 -- neither the root nor a party has stopped
 pub record NobodyStopped (rules : Rules) (s : State) : Type 0 where
   pub root_not : (e : ℕ) → s.table.root ≢ Down RootStopped e
-  pub party_not : (i e : ℕ) (g : Stage) → 1 ≤ i → i ≤ rules.plan.n → (the i s.table).own.standing ≢ Ended Stopped e g
-
--- the four laws of the end; the last wants that each loss and crash was refused
-pub record EndTogetherForCause (rules : Rules) (calls : List Call) (answers : List ℕ) (s : State) : Type 0 where
-  pub root_follows : RootFollows rules s
-  pub parties_follow : PartiesFollow rules s
-  pub stops_for_cause : StopsForCause rules s
-  pub none_stops_unharmed : unharmed calls answers ≡ true → NobodyStopped rules s
-
--- every run of every group keeps the laws
-abbrev pub RunsEndTogetherForCause : Type 0
-RunsEndTogetherForCause =
-    (rules : Rules) → Lawful rules.meaning → (calls : List Call) →
-    EndTogetherForCause rules calls (numbers rules calls (opening rules)) (state_after rules calls (opening rules))
+  pub party_not :
+      (i e : ℕ) (g : Stage) → 1 ≤ i → i ≤ rules.plan.n →
+      (the i s.table).own.standing ≢ Ended Stopped e g

@@ -5,7 +5,8 @@ use Rattle.protocol.specs.Rules.{Rules}
 use Rattle.protocol.specs.State.{State}
 use Rattle.protocol.specs.Runs.{number, perform}
 
--- what came of making calls: the group and its log, the calls that were made, and the number of the refusal of the last one, 0 for none
+-- what came of making calls: the group and its log, the calls that were made,
+-- and the number of the refusal of the last one, 0 for none
 pub record Making : Type 0 where
   pub state : State
   pub calls : List Call
@@ -13,7 +14,8 @@ pub record Making : Type 0 where
 
 -- a call that was not refused is followed by the others, a refused one is the last
 abbrev pub goes_on : ℕ → Call → State → Making → Making
-goes_on zero call s rest = record { state = rest.state; calls = call ∷ rest.calls; number = rest.number }
+goes_on zero call s rest =
+    record { state = rest.state; calls = call ∷ rest.calls; number = rest.number }
 goes_on (suc k) call s rest = record { state = s; calls = call ∷ []; number = suc k }
 
 -- calls made one after another, up to the first that is refused

@@ -3,11 +3,10 @@ use Rattle.std.specs.Prelude.{◌≡◌, ℕ, Bool, true, ◌<◌, ◌≤◌, �
 use Rattle.std.specs.List.Sorted.{IsNonDecreasingBy}
 use Rattle.protocol.specs.declared.happening.Happening.{Happening}
 use Rattle.protocol.specs.declared.call.Call.{Call}
-use Rattle.pace.specs.Meaning.{Lawful}
 use Rattle.protocol.specs.Rules.{Rules}
-use Rattle.protocol.specs.State.{State, opening}
+use Rattle.protocol.specs.State.{State}
 use Rattle.protocol.specs.Questions.{tick_of}
-use Rattle.protocol.specs.Runs.{number, state_after}
+use Rattle.protocol.specs.Runs.{number}
 use Rattle.protocol.specs.Beats.{happening_at}
 
 -- the ticks of the log never fall, and no record is later than the clock
@@ -28,15 +27,10 @@ pub record OwnLog (s : State) : Type 0 where
 abbrev pub TellsOwnLog : Bool → State → Type 0
 TellsOwnLog answer s = IsNonDecreasingBy tick_of s.log → (answer ≡ true) ↔ OwnLog s
 
--- the log is in order, each record is of the root or a party of the plan, the group has counted them,
--- and so no call is refused because the log is another's
+-- the log is in order, each record is of the root or a party of the plan,
+-- the group has counted them, and so no call is refused because the log is another's
 pub record LogInOrder (rules : Rules) (s : State) : Type 0 where
   pub in_order : InOrder s.table.clock s.log
   pub owned : OwnedUpTo rules.plan.n s.log
   pub counted : s.table.logged ≡ length s.log
   pub never_another : (room : ℕ) (call : Call) → number (record rules { room = room }) call s ≢ 13
-
--- every run keeps its log in order
-abbrev pub RunsKeepTheirLogInOrder : Type 0
-RunsKeepTheirLogInOrder =
-    (rules : Rules) → Lawful rules.meaning → (calls : List Call) → LogInOrder rules (state_after rules calls (opening rules))

@@ -55,7 +55,10 @@ on_roll Struck = false
 -- the legs: 1 out from the root, 2 the reply, 3 the joining beats
 
 abbrev pub on_leg : ℕ → Party → Option Beat
-on_leg leg p = cond (leg == 1) p.legs.out (cond (leg == 2) p.legs.reply (cond (leg == 3) p.legs.entry None))
+on_leg leg p =
+    cond (leg == 1) p.legs.out
+    (cond (leg == 2) p.legs.reply
+    (cond (leg == 3) p.legs.entry None))
 
 abbrev pub off_out : Party → Party
 off_out p = party p.note p.own (legs_of None p.legs.reply p.legs.entry)
@@ -68,4 +71,7 @@ off_entry p = party p.note p.own (legs_of p.legs.out p.legs.reply None)
 
 -- the beat on the leg is taken off; any other leg is none
 abbrev pub off_leg : ℕ → Party → Party
-off_leg leg p = cond (leg == 1) (off_out p) (cond (leg == 2) (off_reply p) (cond (leg == 3) (off_entry p) p))
+off_leg leg p =
+    cond (leg == 1) (off_out p)
+    (cond (leg == 2) (off_reply p)
+    (cond (leg == 3) (off_entry p) p))

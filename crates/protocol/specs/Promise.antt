@@ -1,12 +1,13 @@
--- The promise of a run: what holds of a group and its log after any calls, refused ones too, from the opening on.
+-- The promise of a run: what holds of a group and its log after any calls, refused ones too,
+-- from the opening on.
 use Rattle.std.specs.Prelude.{◌≡◌, true, List, ◌∷◌, ◌++◌, map}
 use Rattle.protocol.specs.declared.call.Call.{Call}
 use Rattle.protocol.specs.declared.call.Step.{Step}
 use Rattle.protocol.specs.Rules.{Rules}
 use Rattle.protocol.specs.State.{State, opening}
-use Rattle.protocol.specs.Runs.{number, state_after, unharmed}
+use Rattle.protocol.specs.Runs.{number, run_state, unharmed}
 use Rattle.protocol.specs.Laws.{RootFollows, PartiesFollow, StopsForCause, NobodyStopped}
-use Rattle.protocol.specs.Beats.{BeatsAreLogged, SendingsSettleOnce, FreeFor, edges}
+use Rattle.protocol.specs.Beats.{BeatsAreLogged, PutWithTheirSendings, SendingsSettleOnce, FreeFor, edges}
 use Rattle.protocol.specs.Order.{LogInOrder}
 use Rattle.protocol.specs.Rehearsals.{Rehearsed, call_of, answer_of, granted_ticks}
 use Rattle.protocol.specs.Deliveries.{EdgesAreTheDeliveries}
@@ -17,12 +18,13 @@ use Rattle.protocol.specs.Trips.{BeatsComeInTime}
 
 -- what is said of each call among the calls, and of those before it
 abbrev pub AtEachCall : List Call → (List Call → Call → Type 0) → Type 0
-AtEachCall calls P = (before after : List Call) (call : Call) → calls ≡ before ++ (call ∷ after) → P before call
+AtEachCall calls P =
+    (before after : List Call) (call : Call) → calls ≡ before ++ (call ∷ after) → P before call
 
 -- the legs on which the call puts a beat are free, where it is not refused
 abbrev pub SendsOnFreeLegs : Rules → List Call → Call → Type 0
 SendsOnFreeLegs rules before call =
-    let s = state_after rules before (opening rules) in number rules call s ≡ 0 → FreeFor rules call s
+    let s = run_state rules before in number rules call s ≡ 0 → FreeFor rules call s
 
 -- of a group opened new from a plan and a pace of that meaning, over so many slots, after the steps
 pub record KeepsTheRules (rules : Rules) (steps : List Step) (s : State) : Type 0 where
@@ -37,9 +39,12 @@ pub record KeepsTheRules (rules : Rules) (steps : List Step) (s : State) : Type 
   -- a party stopped that was in just before: the root has ended, and no later than that party
   pub party_that_was_in_stops_no_earlier_than_the_root : StopsForCause rules s
   -- each loss and crash was refused: nobody has stopped
-  pub nobody_stops_unharmed : unharmed (map call_of steps) (map answer_of steps) ≡ true → NobodyStopped rules s
+  pub nobody_stops_unharmed :
+      unharmed (map call_of steps) (map answer_of steps) ≡ true → NobodyStopped rules s
   -- each beat on a leg, each arrival and each loss goes back to its sending
   pub beats_go_back_to_their_sendings : BeatsAreLogged rules s
+  -- each beat on a leg was put there by the call that wrote the record of its sending
+  pub beats_are_put_with_their_sendings : PutWithTheirSendings rules (map call_of steps) s
   -- no sending is the source of two: each arrives or is lost once at most
   pub no_sending_settles_twice : SendingsSettleOnce rules s
   -- no beat vanishes: each sending has arrived, is lost or is under way

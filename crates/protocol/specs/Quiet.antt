@@ -13,12 +13,13 @@ use Rattle.protocol.specs.State.{State}
 
 -- the table, and the table with its log, at another clock
 abbrev pub clocked : ℕ → Table → Table
-clocked c t = record { clock = c; root = t.root; start = t.start; length = t.length; logged = t.logged; parties = t.parties }
+clocked c t = record t { clock = c }
 
 abbrev pub at_clock : ℕ → State → State
 at_clock c s = record { table = clocked c s.table; log = s.log }
 
--- a timer does nothing after so many ticks of silence: only a live party has one, its patience lasts, and it does not call again
+-- a timer does nothing after so many ticks of silence: only a live party has one,
+-- its patience lasts, and it does not call again
 abbrev pub timer_rests : Standing → ℕ → ℕ → ℕ → Bool
 timer_rests Outside patience tmin silent = true
 timer_rests (Live g) patience tmin silent = nat_lt silent patience && not (calls_in g tmin silent)
@@ -32,7 +33,9 @@ pub record Rests (patience tmin c : ℕ) (p : Party) : Type 0 where
 -- nothing is due at c: no round ends, and each party of the plan rests
 pub record Quiet (m : Meaning) (plan : Plan) (t : Table) (c : ℕ) : Type 0 where
   pub root : round_ends (clocked c t) ≡ false
-  pub parties : (k : ℕ) → k < plan.n → Rests (patience m plan.kind) m.tmin c (slice_index_or t.parties k nobody)
+  pub parties :
+      (k : ℕ) → k < plan.n →
+      Rests (patience m plan.kind) m.tmin c (slice_index_or t.parties k nobody)
 
 -- nothing is due from the clock up to b, which the clock may come to
 pub record QuietUntil (m : Meaning) (plan : Plan) (t : Table) (b : ℕ) : Type 0 where

@@ -4,7 +4,7 @@ use Rattle.protocol.specs.declared.call.Call.{Call}
 use Rattle.protocol.specs.declared.call.Call.TheVariants.{Tick, Deliver, Lose, Crash, Join, Leave}
 use Rattle.protocol.specs.declared.call.Step.{Step}
 use Rattle.protocol.specs.Rules.{Rules}
-use Rattle.protocol.specs.State.{State, opening}
+use Rattle.protocol.specs.State.{State}
 use Rattle.protocol.specs.Answers.{number_told}
 use Rattle.protocol.specs.Runs.{number, perform}
 
@@ -18,7 +18,9 @@ answer_of x = number_told x.answer
 -- the steps lead from s to s': each answers its call's number and does what the call does
 abbrev pub Rehearsed : Rules → State → List Step → State → Type 0
 Rehearsed rules s [] s' = s' ≡ s
-Rehearsed rules s (x ∷ xs) s' = (number_told x.answer ≡ number rules x.call s) × Rehearsed rules (perform rules x.call s) xs s'
+Rehearsed rules s (x ∷ xs) s' =
+    (number_told x.answer ≡ number rules x.call s)
+    × Rehearsed rules (perform rules x.call s) xs s'
 
 -- what a call adds to the clock, if it was granted
 abbrev pub adds : Call → Bool → ℕ
@@ -33,9 +35,3 @@ adds (Leave i) granted = 0
 abbrev pub granted_ticks : List Step → ℕ
 granted_ticks [] = 0
 granted_ticks (x ∷ xs) = adds x.call (is_ok x.answer) + granted_ticks xs
-
--- in every run the clock tells how many ticks were granted
-abbrev pub RunsCountTheirTicks : Type 0
-RunsCountTheirTicks =
-    (rules : Rules) (steps : List Step) (s : State) →
-    Rehearsed rules (opening rules) steps s → s.table.clock ≡ granted_ticks steps

@@ -27,6 +27,7 @@ slack Dynamic trip = trip
 abbrev pub trip : Meaning → ℕ
 trip m = m.tmin
 
--- D: the ticks of silence after which a party ends, tmax + S, and one trip more where parties may join
+-- D: the ticks of silence after which a party ends, tmax + S,
+-- and one trip more where parties may join
 abbrev pub patience : Meaning → GroupKind → ℕ
 patience m kind = (m.tmax + sum m.waits) + slack kind (trip m)

@@ -1,15 +1,12 @@
 -- No beat vanishes: each sending has arrived, is lost or is under way.
 use Rattle.std.specs.Prelude.{◌≡◌, ℕ, ◌<◌, ◌≤◌, true, ◌⊎◌, List, length, Some}
-use Rattle.pace.specs.Meaning.{Lawful}
 use Rattle.protocol.specs.declared.party.Beat.{Beat}
 use Rattle.protocol.specs.declared.table.Table.{Table}
 use Rattle.protocol.specs.declared.happening.HappeningKind.TheVariants.{Sent}
 use Rattle.protocol.specs.declared.happening.Happening.{Happening}
-use Rattle.protocol.specs.declared.call.Call.{Call}
 use Rattle.protocol.specs.Party.{on_leg}
 use Rattle.protocol.specs.Rules.{Rules}
 use Rattle.protocol.specs.State.{State, the}
-use Rattle.protocol.specs.Runs.{run_state}
 use Rattle.protocol.specs.Beats.{settles, happening_at}
 
 -- an arrival or a loss of the log links to place k
@@ -32,9 +29,3 @@ abbrev pub NoBeatVanishes : Rules → State → Type 0
 NoBeatVanishes rules s =
     (k : ℕ) → k < length s.log → (happening_at s.log k).kind ≡ Sent →
     SettledAt s.log k ⊎ UnderWay rules.plan.n s.table k
-
--- in every run each sending has arrived, is lost or is under way
-abbrev pub RunsLetNoBeatVanish : Type 0
-RunsLetNoBeatVanish =
-    (rules : Rules) → Lawful rules.meaning → (calls : List Call) →
-    NoBeatVanishes rules (run_state rules calls)

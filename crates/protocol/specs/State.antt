@@ -1,5 +1,5 @@
 -- What a call changes: the table of the group and its log.
-use Rattle.std.specs.Prelude.{ℕ, ◌+◌, ◌-◌, Bool, true, false, List, [], ◌∷◌, ◌++◌, length, replicate, slice_index_or, slice_set}
+use Rattle.std.specs.Prelude.{ℕ, ◌-◌, Bool, true, false, List, [], ◌∷◌, ◌++◌, length, replicate, slice_index_or, slice_set}
 use Rattle.protocol.specs.declared.party.Party.{Party}
 use Rattle.protocol.specs.declared.table.Root.{Root}
 use Rattle.protocol.specs.declared.table.Root.TheVariants.{Running, Down}
@@ -31,7 +31,8 @@ with_linked clock owner w place log = log ++ (happening clock owner w place ∷ 
 abbrev pub the : ℕ → Table → Party
 the i t = slice_index_or t.parties (i - 1) nobody
 
--- after a call the table counts the records of the log: with other parties, another root, one other party
+-- after a call the table counts the records of the log: with other parties, another root,
+-- one other party
 abbrev pub with_parties : List Party → List Happening → Table → State
 with_parties ps log t =
     record { table = record t { logged = length log; parties = ps }; log = log }

@@ -1,6 +1,5 @@
 -- A struck party is struck for good.
 use Rattle.std.specs.Prelude.{◌≡◌, ℕ, ◌≤◌, List, ◌++◌, None}
-use Rattle.pace.specs.Meaning.{Lawful}
 use Rattle.protocol.specs.declared.party.Roll.TheVariants.{Struck}
 use Rattle.protocol.specs.declared.call.Call.{Call}
 use Rattle.protocol.specs.Rules.{Rules}
@@ -20,9 +19,3 @@ pub record StruckForGood (rules : Rules) (calls : List Call) : Type 0 where
       (before after : List Call) (i : ℕ) → calls ≡ before ++ after →
       1 ≤ i → i ≤ rules.plan.n → IsStruck i (run_state rules before) →
       (the i (run_state rules before).table).legs.out ≡ None
-
--- every run strikes its parties for good
-abbrev pub RunsStrikeForGood : Type 0
-RunsStrikeForGood =
-    (rules : Rules) → Lawful rules.meaning → (calls : List Call) →
-    StruckForGood rules calls

@@ -1,6 +1,5 @@
 -- What the log of a run tells of the root and of each party, read record by record.
 use Rattle.std.specs.Prelude.{◌≡◌, ℕ, ◌≤◌, cond, List, [], ◌∷◌, ◌==◌}
-use Rattle.pace.specs.Meaning.{Lawful}
 use Rattle.protocol.specs.declared.party.Party.{Party}
 use Rattle.protocol.specs.declared.party.Own.{Own}
 use Rattle.protocol.specs.declared.party.Stage.TheVariants.{Joining as Joins, In, Leaving as Leaves}
@@ -18,15 +17,13 @@ use Rattle.protocol.specs.declared.kind.GroupKind.TheVariants.{Closed, Expanding
 use Rattle.protocol.specs.declared.happening.HappeningKind.{HappeningKind}
 use Rattle.protocol.specs.declared.happening.HappeningKind.TheVariants.{Sent, Arrived, Lost, Enrolled, Struck, Crashed, Stopped, Left, Joining, Leaving}
 use Rattle.protocol.specs.declared.happening.Happening.{Happening}
-use Rattle.protocol.specs.declared.call.Call.{Call}
 use Rattle.protocol.specs.Rules.{Rules}
 use Rattle.protocol.specs.State.{State, the}
-use Rattle.protocol.specs.Runs.{run_state}
 
 -- what the records owned by i make of x, one after another
-abbrev pub read : {A : Type 0} → (A → Happening → A) → ℕ → A → List Happening → A
-read f i x [] = x
-read f i x (h ∷ log) = read f i (cond (h.owner == i) (f x h) x) log
+abbrev pub after_reading : {A : Type 0} → (A → Happening → A) → ℕ → A → List Happening → A
+after_reading f i x [] = x
+after_reading f i x (h ∷ log) = after_reading f i (cond (h.owner == i) (f x h) x) log
 
 -- where a party stands, when it last heard, and whether it is on the roll
 pub record Account : Type 0 where
@@ -75,7 +72,7 @@ tells_as Leaving t a = account (Live Leaves) a.own.since a.roll
 
 -- what the log tells of party i
 abbrev pub told_of : GroupKind → ℕ → List Happening → Account
-told_of kind i log = read (λ a h. tells_as h.kind h.tick a) i (first_account kind) log
+told_of kind i log = after_reading (λ a h. tells_as h.kind h.tick a) i (first_account kind) log
 
 -- what a record of the root makes of it
 abbrev pub root_as : HappeningKind → ℕ → Root → Root
@@ -92,16 +89,12 @@ root_as Leaving t r = r
 
 -- what the log tells of the root, which is party 0
 abbrev pub root_told : List Happening → Root
-root_told log = read (λ r h. root_as h.kind h.tick r) 0 Running log
+root_told log = after_reading (λ r h. root_as h.kind h.tick r) 0 Running log
 
 -- the log tells where each party stands, when it last heard and whether it is on the roll;
 -- and how the root is
 pub record TellsTheGroup (rules : Rules) (s : State) : Type 0 where
-  pub party : (i : ℕ) → 1 ≤ i → i ≤ rules.plan.n → told_of rules.plan.kind i s.log ≡ account_of (the i s.table)
+  pub party :
+      (i : ℕ) → 1 ≤ i → i ≤ rules.plan.n →
+      told_of rules.plan.kind i s.log ≡ account_of (the i s.table)
   pub root : root_told s.log ≡ s.table.root
-
--- the log of every run tells its group
-abbrev pub RunsTellTheirGroup : Type 0
-RunsTellTheirGroup =
-    (rules : Rules) → Lawful rules.meaning → (calls : List Call) →
-    TellsTheGroup rules (run_state rules calls)

@@ -1,14 +1,9 @@
 -- How long beats are under way: each arrives or is lost at most a trip after its sending.
-use Rattle.std.specs.Prelude.{◌≡◌, ℕ, ◌+◌, ◌<◌, ◌≤◌, true, List, length, Some}
-use Rattle.pace.specs.Meaning.{Lawful}
-use Rattle.protocol.specs.declared.party.Beat.{Beat}
+use Rattle.std.specs.Prelude.{◌≡◌, ℕ, ◌+◌, ◌<◌, ◌≤◌, true, List, length}
 use Rattle.protocol.specs.declared.happening.Happening.{Happening}
-use Rattle.protocol.specs.declared.call.Call.{Call}
 use Rattle.protocol.specs.Rules.{trip, Rules}
-use Rattle.protocol.specs.Party.{on_leg}
-use Rattle.protocol.specs.State.{State, the}
-use Rattle.protocol.specs.Runs.{run_state}
-use Rattle.protocol.specs.Beats.{settles, happening_at}
+use Rattle.protocol.specs.State.{State}
+use Rattle.protocol.specs.Beats.{settles, happening_at, EachBeat}
 
 -- the tick of the record at place k
 abbrev pub tick_at : List Happening → ℕ → ℕ
@@ -21,11 +16,5 @@ pub record BeatsComeInTime (rules : Rules) (s : State) : Type 0 where
       (k : ℕ) → k < length s.log → settles (happening_at s.log k).kind ≡ true →
       tick_at s.log k ≤ tick_at s.log (happening_at s.log k).link + trip rules.meaning
   pub under_way :
-      (i leg : ℕ) (b : Beat) → 1 ≤ i → i ≤ rules.plan.n → on_leg leg (the i s.table) ≡ Some b →
-      (s.table.clock ≤ b.last) × (b.last ≤ tick_at s.log b.place + trip rules.meaning)
-
--- in every run beats come in time
-abbrev pub RunsBringBeatsInTime : Type 0
-RunsBringBeatsInTime =
-    (rules : Rules) → Lawful rules.meaning → (calls : List Call) →
-    BeatsComeInTime rules (run_state rules calls)
+      EachBeat rules s (λ i leg b.
+      (s.table.clock ≤ b.last) × (b.last ≤ tick_at s.log b.place + trip rules.meaning))

@@ -4,7 +4,6 @@
 pub mod call;
 pub mod happening;
 pub mod kind;
-pub mod laws;
 pub mod member;
 pub mod party;
 pub mod plan;

@@ -37,6 +37,10 @@ root_after_crash (Down how at) clock = Down how at
 
 -- the root crashes, which is party 0, or another party
 abbrev pub after_crash : ℕ → State → State
-after_crash zero s = with_root (root_after_crash s.table.root s.table.clock) (with_record s.table.clock 0 HasCrashed s.log) s.table
+after_crash zero s =
+    let t = s.table in
+    with_root (root_after_crash t.root t.clock) (with_record t.clock 0 HasCrashed s.log) t
 after_crash (suc i) s =
-    with_party (suc i) (crashes s.table.clock (the (suc i) s.table)) (with_record s.table.clock (suc i) HasCrashed s.log) s.table
+    let t = s.table in
+    with_party (suc i) (crashes t.clock (the (suc i) t))
+    (with_record t.clock (suc i) HasCrashed s.log) t

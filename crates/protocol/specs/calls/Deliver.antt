@@ -37,16 +37,19 @@ parts Joining = false
 parts In = false
 parts Leaving = true
 
--- a beat of the root, of last tick l, arrives: a live party hears it at the clock and puts a reply on leg 2, of the same last tick and sent at place
+-- a beat of the root, of last tick l, arrives: a live party hears it at the clock
+-- and puts a reply on leg 2, of the same last tick and sent at place
 abbrev pub hears_as : Standing → ℕ → ℕ → ℕ → Party → Party
 hears_as Outside clock place l p = p
 hears_as (Live g) clock place l p =
-    party p.note (owning (Live (heard_stage g)) clock) (legs_of p.legs.out (Some (beat l (parts g) place)) p.legs.entry)
+    party p.note (owning (Live (heard_stage g)) clock)
+    (legs_of p.legs.out (Some (beat l (parts g) place)) p.legs.entry)
 hears_as (Ended how at g) clock place l p = p
 
 -- at the root
 
--- the note of a running root at whom a beat of the party arrives: a struck party stays struck, a parting beat strikes, any other is heard and enrols
+-- the note of a running root at whom a beat of the party arrives:
+-- a struck party stays struck, a parting beat strikes, any other is heard and enrols
 abbrev pub answers_as : Roll → Bool → Note → Note
 answers_as Struck b n = n
 answers_as On true n = noted Struck n.heard n.misses
@@ -64,11 +67,13 @@ heeds (Down how at) parting p = p
 
 -- the beat arrives
 
--- the beat b arrives from its leg, on leg 1 at the party, whose reply is sent at place, and on legs 2 and 3 at the root
+-- the beat b arrives from its leg, on leg 1 at the party, whose reply is sent at place,
+-- and on legs 2 and 3 at the root
 abbrev pub arrives : ℕ → Root → ℕ → Beat → ℕ → Party → Party
 arrives clock root leg b place p =
     cond (leg == 1) (hears_as p.own.standing clock place b.last (off_out p))
-    (cond (leg == 2) (heeds root b.parting (off_reply p)) (cond (leg == 3) (heeds root b.parting (off_entry p)) p))
+    (cond (leg == 2) (heeds root b.parting (off_reply p))
+    (cond (leg == 3) (heeds root b.parting (off_entry p)) p))
 
 -- a running root tells when the party is struck or enrolled
 abbrev pub answer_log : Roll → Bool → ℕ → ℕ → List Happening → List Happening
@@ -82,14 +87,17 @@ answer_log Off false clock i log = with_record clock i Enrolled log
 abbrev pub arrival_log : ℕ → Root → ℕ → Beat → ℕ → Party → List Happening → List Happening
 arrival_log clock root leg b i p log =
     cond (leg == 1)
-    (cond (live p.own.standing) (with_record clock i Sent (with_linked clock i Arrived b.place log)) (with_linked clock i Arrived b.place log))
-    (cond (runs root) (answer_log p.note.roll b.parting clock i (with_linked clock 0 Arrived b.place log)) (with_linked clock 0 Arrived b.place log))
+    (let log' = with_linked clock i Arrived b.place log in
+    cond (live p.own.standing) (with_record clock i Sent log') log')
+    (let log' = with_linked clock 0 Arrived b.place log in
+    cond (runs root) (answer_log p.note.roll b.parting clock i log') log')
 
 abbrev pub after_arrival : Option Beat → ℕ → ℕ → State → State
 after_arrival None i leg s = s
 after_arrival (Some b) i leg s =
     let t = s.table in
-    with_party i (arrives t.clock t.root leg b (length s.log + 1) (the i t)) (arrival_log t.clock t.root leg b i (the i t) s.log) t
+    with_party i (arrives t.clock t.root leg b (length s.log + 1) (the i t))
+    (arrival_log t.clock t.root leg b i (the i t) s.log) t
 
 -- the beat on the leg of party i arrives
 abbrev pub after_delivery : ℕ → ℕ → State → State

@@ -33,12 +33,14 @@ join_number plan room i s =
 -- the party is joining from now on, and its first joining beat is sent
 abbrev pub joined : ℕ → ℕ → ℕ → Party → Party
 joined clock last place p =
-    party p.note (owning (Live Joining) clock) (legs_of p.legs.out p.legs.reply (Some (beat last false place)))
+    party p.note (owning (Live Joining) clock)
+    (legs_of p.legs.out p.legs.reply (Some (beat last false place)))
 
 abbrev pub after_join : ℕ → ℕ → State → State
 after_join trip i s =
     let t = s.table in
-    with_party i (joined t.clock (t.clock + trip) (length s.log + 1) (the i t)) (with_record t.clock i Sent (with_record t.clock i IsJoining s.log)) t
+    with_party i (joined t.clock (t.clock + trip) (length s.log + 1) (the i t))
+    (with_record t.clock i Sent (with_record t.clock i IsJoining s.log)) t
 
 -- the leg of a joining beat is free
 abbrev pub EntryLegFree : ℕ → State → Type 0

@@ -40,4 +40,6 @@ now_leaving p = party p.note (owning (Live Leaving) p.own.since) p.legs
 
 -- party i is leaving
 abbrev pub after_leave : ℕ → State → State
-after_leave i s = with_party i (now_leaving (the i s.table)) (with_record s.table.clock i IsLeaving s.log) s.table
+after_leave i s =
+    let t = s.table in
+    with_party i (now_leaving (the i t)) (with_record t.clock i IsLeaving s.log) t

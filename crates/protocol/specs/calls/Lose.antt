@@ -12,7 +12,8 @@ sender leg i = cond (leg == 1) 0 i
 abbrev pub after_loss_of : Option Beat → ℕ → ℕ → State → State
 after_loss_of None i leg s = s
 after_loss_of (Some b) i leg s =
-    with_party i (off_leg leg (the i s.table)) (with_linked s.table.clock (sender leg i) Lost b.place s.log) s.table
+    let t = s.table in
+    with_party i (off_leg leg (the i t)) (with_linked t.clock (sender leg i) Lost b.place s.log) t
 
 -- the beat on the leg of party i is lost
 abbrev pub after_loss : ℕ → ℕ → State → State

@@ -68,7 +68,8 @@ missed_all rounds p = on_roll p.note.roll && p.note.misses == rounds
 
 -- the wait so far, or a party's own at its misses where that is shorter
 abbrev pub shorter : List ℕ → ℕ → ℕ → Party → ℕ
-shorter waits k w p = cond (on_roll p.note.roll) (min w (unwrap_or (slice_get waits p.note.misses) w)) w
+shorter waits k w p =
+    cond (on_roll p.note.roll) (min w (unwrap_or (slice_get waits p.note.misses) w)) w
 
 -- the smallest wait among the parties on the roll, tmax with none
 abbrev pub shortest : List ℕ → ℕ → ℕ → List Party → ℕ
@@ -77,7 +78,8 @@ shortest waits tmax n ps = folds (shorter waits) 1 n tmax ps
 -- the root's beat goes out to a party on the roll, which is not heard yet in the new round
 abbrev pub sends_as : Roll → ℕ → ℕ → Party → Party
 sends_as On last place p =
-    party (noted On false p.note.misses) p.own (legs_of (Some (beat last false place)) p.legs.reply p.legs.entry)
+    party (noted On false p.note.misses) p.own
+    (legs_of (Some (beat last false place)) p.legs.reply p.legs.entry)
 sends_as Off last place p = p
 sends_as Struck last place p = p
 
@@ -90,12 +92,17 @@ amid ps log t =
     record { table = record t { parties = ps }; log = log }
 
 -- the parties after a pass over the first n, of which each may lengthen the log
-abbrev pub after_pass : (ℕ → List Happening → Party → Party) → (ℕ → List Happening → Party → List Happening) → ℕ → State → State
-after_pass f g n s = amid (walks f g 1 n s.log s.table.parties) (folds g 1 n s.log s.table.parties) s.table
+abbrev pub after_pass :
+    (ℕ → List Happening → Party → Party) → (ℕ → List Happening → Party → List Happening) →
+    ℕ → State → State
+after_pass f g n s =
+    let ps = s.table.parties in
+    amid (walks f g 1 n s.log ps) (folds g 1 n s.log ps) s.table
 
 -- a round ends: each party on the roll has its misses counted
 abbrev pub after_count : ℕ → State → State
-after_count n s = amid (walks (λ _ (u : ℕ) p. missed p) (λ _ (u : ℕ) _. u) 1 n 0 s.table.parties) s.log s.table
+after_count n s =
+    amid (walks (λ _ (u : ℕ) p. missed p) (λ _ (u : ℕ) _. u) 1 n 0 s.table.parties) s.log s.table
 
 -- the root tells that it sends
 abbrev pub send_log : ℕ → List Happening → Party → List Happening
@@ -103,13 +110,17 @@ send_log clock log p = cond (on_roll p.note.roll) (with_record clock 0 Sent log)
 
 -- each party on the roll, rising, gets a beat on leg 1
 abbrev pub after_sending : ℕ → ℕ → State → State
-after_sending last n s = after_pass (λ _ log p. sends last (length log) p) (λ _ log p. send_log s.table.clock log p) n s
+after_sending last n s =
+    after_pass (λ _ log p. sends last (length log) p) (λ _ log p. send_log s.table.clock log p) n s
 
 -- the root stops and sends nothing
 abbrev pub after_stop : State → State
 after_stop s =
     let t = s.table in
-    record { table = record t { root = Down RootStopped t.clock }; log = with_record t.clock 0 HasStopped s.log }
+    record {
+      table = record t { root = Down RootStopped t.clock };
+      log = with_record t.clock 0 HasStopped s.log;
+    }
 
 -- a round of length w starts at the clock
 abbrev pub after_start : ℕ → State → State
@@ -121,12 +132,15 @@ abbrev pub after_verdict_of : Bool → Rules → State → State
 after_verdict_of true rules s = after_stop s
 after_verdict_of false rules s =
     let n = rules.plan.n in let m = rules.meaning in
-    after_sending (s.table.clock + trip m) n (after_start (shortest m.waits m.tmax n s.table.parties) s)
+    after_sending (s.table.clock + trip m) n
+    (after_start (shortest m.waits m.tmax n s.table.parties) s)
 
--- once the misses are counted: the root stops where a party has missed all rounds, otherwise it starts the next round and sends
+-- once the misses are counted: the root stops where a party has missed all rounds,
+-- otherwise it starts the next round and sends
 abbrev pub after_verdict : Rules → State → State
 after_verdict rules s =
-    after_verdict_of (any (missed_all (length rules.meaning.waits)) rules.plan.n s.table.parties) rules s
+    let stops = missed_all (length rules.meaning.waits) in
+    after_verdict_of (any stops rules.plan.n s.table.parties) rules s
 
 abbrev pub after_round_if : Bool → Rules → State → State
 after_round_if true rules s = after_verdict rules (after_count rules.plan.n s)
@@ -156,7 +170,8 @@ calls_in Leaving tmin silent = false
 
 -- a live party ends where its patience has, otherwise it may call again
 abbrev pub times_live : Bool → Bool → Stage → ℕ → ℕ → ℕ → Party → Party
-times_live true calls g clock last place p = party p.note (owning (Ended (silent_end g) clock g) p.own.since) p.legs
+times_live true calls g clock last place p =
+    party p.note (owning (Ended (silent_end g) clock g) p.own.since) p.legs
 times_live false true g clock last place p =
     party p.note p.own (legs_of p.legs.out p.legs.reply (Some (beat last false place)))
 times_live false false g clock last place p = p
@@ -187,7 +202,8 @@ live_word false false g = None
 -- only a live party has a timer
 abbrev pub timer_word : Standing → ℕ → ℕ → ℕ → ℕ → Option HappeningKind
 timer_word Outside clock patience tmin since = None
-timer_word (Live g) clock patience tmin since = live_word (nat_le patience (clock - since)) (calls_in g tmin (clock - since)) g
+timer_word (Live g) clock patience tmin since =
+    let silent = clock - since in live_word (nat_le patience silent) (calls_in g tmin silent) g
 timer_word (Ended how at g) clock patience tmin since = None
 
 -- one record more with that word, if there is one
@@ -196,7 +212,8 @@ tells_if None clock i log = log
 tells_if (Some w) clock i log = with_record clock i w log
 
 abbrev pub timer_log : Standing → ℕ → ℕ → ℕ → ℕ → ℕ → List Happening → List Happening
-timer_log st clock patience tmin since i log = tells_if (timer_word st clock patience tmin since) clock i log
+timer_log st clock patience tmin since i log =
+    tells_if (timer_word st clock patience tmin since) clock i log
 
 -- each party's timer, rising
 abbrev pub after_timers : ℕ → ℕ → ℕ → ℕ → State → State
@@ -216,7 +233,8 @@ after_clock s =
 abbrev pub after_tick : Rules → State → State
 after_tick rules s =
     let m = rules.meaning in
-    after_clock (after_timers (patience m rules.plan.kind) m.tmin (trip m) rules.plan.n (after_round rules s))
+    let d = patience m rules.plan.kind in
+    after_clock (after_timers d m.tmin (trip m) rules.plan.n (after_round rules s))
 
 -- the legs on which the root and the joining parties send are free
 abbrev pub LegsFreeAtTick : Rules → State → Type 0
