@@ -1,5 +1,5 @@
 -- A run goes on.
-use Rattle.std.proofs.Common.{◌≡◌, ℕ, ◌-◌, List, [], ◌∷◌, ◌++◌, replicate, Result, sym, subst}
+use Rattle.std.proofs.Common.{◌≡◌, ℕ, ◌-◌, List, [], ◌∷◌, ◌++◌, replicate, Result, sym, subst, refl}
 use mathlib.Core.Logic.{∥∥₁_map}
 use Rattle.pace.specs.Meaning.{Lawful}
 use Rattle.pace.specs.declared.meaning.Pace.{Ghosts}
@@ -17,7 +17,7 @@ use Rattle.group.specs.declared.group.Group.{Group}
 use Rattle.group.specs.Does.{rules, state, Stays, Does}
 use Rattle.group.proofs.Staying.{same_rules}
 use Rattle.group.specs.Advance.{WentOn}
-use Rattle.runs.specs.Runs.{IsRun, Leads}
+use Rattle.runs.specs.Runs.{IsRun, Leads, Makes}
 use Rattle.runs.proofs.Answering.{makes_run}
 use Rattle.protocol.specs.Rules.{Rules}
 
@@ -47,10 +47,16 @@ module _ {A : Type 0} {D : Ghosts A} where
       Does call g g' l l' answer → ∥ IsRun (rules g l) (state g l) ∥₁ → ∥ IsRun (rules g' l') (state g' l') ∥₁
   goes_on_by g g' l l' call answer sound h = goes_on g g' l l' (record { call = call; answer = answer } ∷ []) sound h.stays (h.number, h.after)
 
+  -- calls more, up to the first that is refused
+  pub goes_on_making : (calls : List Call) (g g' : Group A D) (l l' : SlotList Happening) (told : ℕ) → Lawful (D.means g.pace) →
+      Makes calls g g' l l' told → ∥ IsRun (rules g l) (state g l) ∥₁ → ∥ IsRun (rules g' l') (state g' l') ∥₁
+  goes_on_making calls g g' l l' told sound h =
+      let R = rules g l in
+      let made = makes_run R calls (state g l) in
+      goes_on g g' l l' made.steps sound h.stays (subst (λ (s : State). Leads R (state g l) made.steps s) (sym h.after) made.by_the_rules)
+
   -- ticks more
   pub went_on : (until : ℕ) (g g' : Group A D) (l l' : SlotList Happening) (answer : Result (Unit {0}) Refusal) → Lawful (D.means g.pace) →
       WentOn until g g' l l' answer → ∥ IsRun (rules g l) (state g l) ∥₁ → ∥ IsRun (rules g' l') (state g' l') ∥₁
   went_on until g g' l l' answer sound h =
-      let R = rules g l in
-      let made = makes_run R (replicate (until - g.table.clock) Tick) (state g l) in
-      goes_on g g' l l' made.steps sound h.stays (subst (λ (s : State). Leads R (state g l) made.steps s) (sym h.after) made.by_the_rules)
+      goes_on_making (replicate (until - g.table.clock) Tick) g g' l l' _ sound (record { stays = h.stays; number = refl; after = h.after })

@@ -1,5 +1,5 @@
 -- What every run is, and what several calls do to it.
-use Rattle.std.specs.Prelude.{◌≡◌, List, map}
+use Rattle.std.specs.Prelude.{◌≡◌, ℕ, List, map}
 use Rattle.pace.specs.declared.meaning.Pace.{Ghosts}
 use Rattle.slots.specs.declared.SlotList.{SlotList}
 use Rattle.protocol.specs.declared.happening.Happening.{Happening}
@@ -7,6 +7,7 @@ use Rattle.protocol.specs.declared.call.Call.{Call}
 use Rattle.protocol.specs.declared.call.Step.{Step}
 use Rattle.protocol.specs.Rules.{Rules}
 use Rattle.protocol.specs.State.{State}
+use Rattle.protocol.specs.Making.{making}
 use Rattle.protocol.specs.Rehearsals.{Rehearsed, call_of}
 use Rattle.protocol.specs.Promise.{KeepsTheRules}
 use Rattle.group.specs.declared.group.Group.{Group}
@@ -26,6 +27,13 @@ pub record DoesAll {A : Type 0} {d : Ghosts A} (g g' : Group A d) (l l' : SlotLi
   pub stays : Stays g g' l l'
   pub calls : map call_of steps' ≡ map call_of steps
   pub leads : Leads (rules g l) (state g l) steps' (state g' l')
+
+-- the calls were made in turn, up to the first that was refused, whose number is told; 0 for none
+pub record Makes {A : Type 0} {d : Ghosts A} (calls : List Call) (g g' : Group A d)
+    (l l' : SlotList Happening) (told : ℕ) : Type 0 where
+  pub stays : Stays g g' l l'
+  pub number : told ≡ (making (rules g l) calls (state g l)).number
+  pub after : state g' l' ≡ (making (rules g l) calls (state g l)).state
 
 -- a run of those calls by the rules: there are steps, each a call with its answer, that lead
 -- from s to s'

@@ -1,11 +1,13 @@
 // A group with its log. Every value of the type is a run by the rules, and keeps their promise.
-ghost use Rattle.std.specs.Prelude.{◌≡◌};
+ghost use Rattle.std.specs.Prelude.{◌≡◌, ◌-◌, replicate};
+ghost use Rattle.protocol.specs.Answers.{number_told};
+ghost use Rattle.protocol.specs.declared.call.Call.TheVariants.{Tick};
 ghost use Rattle.protocol.specs.State.{opening};
 ghost use Rattle.group.specs.Advance.{WentOn};
 ghost use Rattle.group.specs.Does.{rules, state, Does};
-ghost use Rattle.runs.specs.Runs.{IsRun, DoesAll};
+ghost use Rattle.runs.specs.Runs.{IsRun, DoesAll, Makes};
 
-use crate::making::make_all;
+use crate::making::{make_all, tick_to};
 use group::Group;
 use pace::Pace;
 use protocol::call::{Call, Step};
@@ -54,6 +56,14 @@ impl<'a, P: Pace> Run<'a, P> {
         ensures { WentOn until self.old.group self.new.group self.old.log self.new.log result }
     {
         self.group.advance(&mut self.log, until)
+    }
+
+    /// Ticks until the clock is `until`, or a tick is refused; those before it stand.
+    pub fn tick_to(&mut self, until: u32) -> Result<(), Refusal>
+        ensures { Makes (replicate (until - self.old.group.table.clock) Tick)
+            self.old.group self.new.group self.old.log self.new.log (number_told result) }
+    {
+        tick_to(&mut self.group, &mut self.log, until)
     }
 
     /// Makes every call in turn, refused or not, and puts each answer beside it.

@@ -1,0 +1,22 @@
+use Rattle.std.proofs.Common.{arith}
+use Rattle.protocol.proofs.Making.{some_number}
+use Rattle.group.proofs.Towards.{handed_on}
+use Rattle.runs.proofs.Ticking.{towards_more, towards_refused}
+use Rattle.runs.proofs.making.tick_to.Goals as goal
+
+pub loop-group-preserved : goal.loop-group-preserved
+loop-group-preserved g c =
+    let a = c.args in
+    let x = c.loop-group in
+    let y = c.advance.new in
+    towards_more a.until a.group.now x.group y.self a.log.now x.log y.log _ x.invariant c.in_ok-advance.ensures
+
+pub returns-in_err-advance : goal.returns-in_err-advance
+returns-in_err-advance g c =
+    let a = c.args in
+    let x = c.loop-group in
+    let y = c.advance.new in
+    let k = some_number c.in_err-advance.field-0.0 in
+    let handed = handed_on c.from_residual.result c.in_err-advance.field-0.0 c.from_residual.ensures.1 in
+    towards_refused a.until a.group.now x.group y.self a.log.now x.log y.log _ x.invariant c.in_err-advance.ensures
+    k.0 _ k.1 handed.0 (omega (arith, c.clock.ensures, c.loop-group-test.true))
