@@ -5,5 +5,4 @@ pub mod Running
 pub mod Lengths
 pub mod Files
 pub mod Reading
-mod Ticking
 mod Example

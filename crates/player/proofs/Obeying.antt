@@ -10,7 +10,7 @@ use Rattle.protocol.proofs.Making.{some_number, makes_then, makes_no_more, makes
 use Rattle.player.specs.declared.play.PlayFault.{PlayFault}
 use Rattle.player.specs.declared.play.PlayFault.TheVariants.{Refused}
 use Rattle.player.specs.declared.play.PlayStop.{PlayStop}
-use Rattle.player.specs.Playing.{at_most_one, fault_number, fault_told, stop_told, Makes}
+use Rattle.player.specs.Playing.{at_most_one, fault_number, fault_told, stop_told}
 
 use Rattle.pace.specs.declared.meaning.Pace.{Ghosts}
 use Rattle.protocol.specs.Rules.{Rules}
@@ -19,6 +19,7 @@ use Rattle.protocol.specs.declared.refusal.Refusal.{Refusal}
 use Rattle.group.specs.declared.group.Group.{Group}
 use Rattle.group.specs.Does.{rules, state, Does}
 use Rattle.group.proofs.Staying.{stays_on}
+use Rattle.runs.specs.Runs.{Makes}
 use Rattle.player.proofs.Turns.{turn}
 
 -- no fault has number 0
@@ -39,7 +40,7 @@ stopped P Q (Err f) place y h made e =
     let k = some_fault f in
     (k.0, k.1, ap (λ x. stop_told (Err x)) (made f h) ∙ ap (λ n. record { order = place; number = n }) k.1)
 
-module _ {A : Type 0} {D : Ghosts A} (xs : List Call) (g g' : Group A D) (l l' : SlotList Happening) (answer : Result (Unit {0}) PlayFault) where
+module _ {A : Type 0} {D : Ghosts A} (xs : List Call) (g g' : Group A D) (l l' : SlotList Happening) (told : ℕ) where
   abbrev R : Rules
   R = rules g l
 
@@ -47,15 +48,15 @@ module _ {A : Type 0} {D : Ghosts A} (xs : List Call) (g g' : Group A D) (l l' :
   s = state g l
 
   -- a refused call ends the making
-  pub made_no_more : (ys : List Call) (other : Result (Unit {0}) PlayFault) (k : ℕ) → fault_told answer ≡ suc k → fault_told other ≡ fault_told answer →
-      Makes xs g g' l l' answer → Makes (xs ++ ys) g g' l l' other
+  pub made_no_more : (ys : List Call) (other k : ℕ) → told ≡ suc k → other ≡ told →
+      Makes xs g g' l l' told → Makes (xs ++ ys) g g' l l' other
   made_no_more ys other k z e h =
       let r = makes_no_more R xs ys s k (sym h.number ∙ z) in
       record { stays = h.stays; number = e ∙ h.number ∙ sym r.number; after = h.after ∙ sym r.state }
 
   -- an order's own call, after ticks of which none was refused
-  pub made_own : (call : Call) (own : Option Call) (g'' : Group A D) (l'' : SlotList Happening) (own_answer : Result (Unit {0}) Refusal) (all : Result (Unit {0}) PlayFault) →
-      Some call ≡ own → fault_told all ≡ number_told own_answer → fault_told answer ≡ 0 → Makes xs g g' l l' answer →
+  pub made_own : (call : Call) (own : Option Call) (g'' : Group A D) (l'' : SlotList Happening) (own_answer : Result (Unit {0}) Refusal) (all : ℕ) →
+      Some call ≡ own → all ≡ number_told own_answer → told ≡ 0 → Makes xs g g' l l' told →
       Does call g' g'' l' l'' own_answer → Makes (xs ++ at_most_one own) g g'' l l'' all
   made_own call own g'' l'' own_answer all own_is told_is none h d =
       let w = turn g g' g'' l l' l'' call own_answer h.stays d in

@@ -16,7 +16,8 @@ use Rattle.group.specs.Does.{rules, state, Stays, Does}
 use Rattle.group.proofs.Staying.{same_rules}
 use Rattle.player.specs.declared.play.PlayFault.{PlayFault}
 use Rattle.player.specs.declared.play.PlayFault.TheVariants.{Refused}
-use Rattle.player.specs.Playing.{fault_told, Makes}
+use Rattle.runs.specs.Runs.{Makes}
+use Rattle.player.specs.Playing.{fault_told}
 
 -- a group was b over the log l, and is g over k when it makes the call
 pub record Turn (rules : Rules) (call : Call) (s s' : State) (told : ℕ) : Type 0 where
@@ -37,10 +38,10 @@ pub passed_on : (r : Result (Unit {0}) PlayFault) (e : Refusal) → IsErrAnd r (
 passed_on r e h = let p = err_from_is_err_and r h in ap fault_told (p.1 ∙ ap Err p.2)
 
 -- the same of the calls of an order
-pub made_turn : {A : Type 0} {D : Ghosts A} (b g g' : Group A D) (l k k' : SlotList Happening) (calls : List Call) (answer : Result (Unit {0}) PlayFault) →
-    Stays b g l k → Makes calls g g' k k' answer →
-    let made = making (rules b l) calls (state g k) in (fault_told answer ≡ made.number) × (state g' k' ≡ made.state)
-made_turn b g g' l k k' calls answer stays h =
+pub made_turn : {A : Type 0} {D : Ghosts A} (b g g' : Group A D) (l k k' : SlotList Happening) (calls : List Call) (told : ℕ) →
+    Stays b g l k → Makes calls g g' k k' told →
+    let made = making (rules b l) calls (state g k) in (told ≡ made.number) × (state g' k' ≡ made.state)
+made_turn b g g' l k k' calls told stays h =
     let same = same_rules b g l k stays in (
       h.number ∙ ap (λ (R : Rules). (making R calls (state g k)).number) same,
       h.after ∙ ap (λ (R : Rules). (making R calls (state g k)).state) same,

@@ -80,13 +80,6 @@ abbrev pub stop_told : Result (Unit {0}) PlayStop → Stop
 stop_told (Ok u) = record { order = 0; number = 0 }
 stop_told (Err x) = record { order = x.order; number = fault_number x.fault }
 
--- the calls were made, up to the first that was refused, of which the answer tells
-pub record Makes {A : Type 0} {d : Ghosts A} (calls : List Call) (g g' : Group A d)
-    (l l' : SlotList Happening) (answer : Result (Unit {0}) PlayFault) : Type 0 where
-  pub stays : Stays g g' l l'
-  pub number : fault_told answer ≡ (making (rules g l) calls (state g l)).number
-  pub after : state g' l' ≡ (making (rules g l) calls (state g l)).state
-
 -- the orders were played, up to the first refusal, at which the answer stops: a run of their calls by
 -- the rules. Where steps from the opening on had brought the group to where it stood, both together
 -- keep the promise of a run

@@ -1,9 +1,9 @@
 // Plays a list of orders over a group.
-ghost use Rattle.std.specs.Prelude.{◌≡◌, ◌-◌, replicate};
+ghost use Rattle.std.specs.Prelude.{◌≡◌};
 ghost use Rattle.slots.specs.Slots.{items};
-ghost use Rattle.protocol.specs.declared.call.Call.TheVariants.{Tick};
+ghost use Rattle.runs.specs.Runs.{Makes};
 ghost use Rattle.player.specs.declared.play.PlayFault.TheVariants.{Refused};
-ghost use Rattle.player.specs.Playing.{own_call, calls_for, fault_number, Makes, Plays};
+ghost use Rattle.player.specs.Playing.{own_call, calls_for, fault_number, fault_told, Plays};
 
 use group::Group;
 use orders::order::{Order, OrderKind};
@@ -11,6 +11,7 @@ use pace::Pace;
 use protocol::call::Call;
 use protocol::happening::Happening;
 use protocol::refusal::Refusal;
+use runs::making::tick_to;
 use slots::SlotList;
 
 // Why the playing of an order ended; a type of its own, that the group's refusal comes inside it unchanged.
@@ -60,21 +61,6 @@ pub fn own_call(order: Order) -> Option<Call>
     }
 }
 
-// Ticks until the clock is `tick`, or a tick is refused; those before it stand.
-pub fn tick_to<P: Pace>(
-    group: &mut Group<P>,
-    log: &mut SlotList<'_, Happening>,
-    tick: u32,
-) -> Result<(), PlayFault>
-    ensures { Makes (replicate (tick - group.old.table.clock) Tick)
-        group.old group.new log.old log.new result }
-{
-    while group.clock() < tick {
-        group.advance(log, tick)?;
-    }
-    Ok(())
-}
-
 // Ticks until the clock is the order's tick, and then acts.
 fn obey<P: Pace>(
     group: &mut Group<P>,
@@ -82,7 +68,7 @@ fn obey<P: Pace>(
     order: Order,
 ) -> Result<(), PlayFault>
     ensures { Makes (calls_for group.old.table.clock order)
-        group.old group.new log.old log.new result }
+        group.old group.new log.old log.new (fault_told result) }
 {
     tick_to(group, log, order.tick)?;
     if let Some(call) = own_call(order) {

@@ -1,9 +1,9 @@
-use Rattle.std.proofs.Common.{◌-◌, replicate, Err, refl, ap, ◌∙◌}
-use Rattle.std.proofs.lemmas.Result.{err_from_is_err_and}
+use Rattle.std.proofs.Common.{◌-◌, replicate, refl}
 use Rattle.protocol.specs.declared.call.Call.TheVariants.{Tick}
-use Rattle.player.specs.Playing.{fault_told, at_most_one, own_call}
+use Rattle.player.specs.Playing.{at_most_one, own_call}
+use Rattle.protocol.proofs.Making.{some_number}
 use Rattle.player.proofs.Turns.{passed_on}
-use Rattle.player.proofs.Obeying.{some_fault, made_no_more, made_own}
+use Rattle.player.proofs.Obeying.{made_no_more, made_own}
 use Rattle.player.proofs.play.obey.Goals as goal
 
 pub returns-in_err-tick_to : goal.returns-in_err-tick_to
@@ -11,10 +11,10 @@ returns-in_err-tick_to g c =
     let a = c.args.group.now in
     let o = c.args.order in
     let y = c.tick_to.new in
-    let p = err_from_is_err_and c.from_residual.result c.from_residual.ensures.1 in
-    let k = some_fault c.in_err-tick_to.field-0.0 in
+    let k = some_number c.in_err-tick_to.field-0.0 in
+    let told = passed_on c.from_residual.result _ c.from_residual.ensures.1 in
     made_no_more (replicate (o.tick - a.table.clock) Tick) a y.group c.args.log.now y.log _
-    (at_most_one (own_call o)) _ k.0 k.1 (ap fault_told (p.1 ∙ ap Err p.2)) c.in_err-tick_to.ensures
+    (at_most_one (own_call o)) _ k.0 k.1 told c.in_err-tick_to.ensures
 
 pub returns-in_err-perform : goal.returns-in_err-perform
 returns-in_err-perform g c =
