@@ -8,9 +8,10 @@ ghost use Rattle.player.specs.Program.{cap_and_plan_no, SetUp, FileOutcome, File
 use crate::fault::FileFault;
 use crate::file_pace::FilePace;
 use crate::notices::{PlayedFile, RefusedFile, notices};
-use crate::opening::open;
+use crate::opening::set_up;
 use crate::play::play;
 use graphml::export::export;
+use group::Group;
 use orders::load::load;
 use orders::order::Order;
 use orders::start::Start;
@@ -77,7 +78,8 @@ fn play_at<P: Pace + Drop>(
     ensures run { SetUp (cap_and_plan_no start) (capped_meaning start.cap (P.means pace)) start (items orders.now) log_slots.old log_slots.new out.old out.new (bytes_told result) (lines_told result) }
     ensures within { bytes_told result ≤ length out.old }
 {
-    let mut group = open(pace, start)?;
+    let (pace, plan) = set_up(pace, start)?;
+    let mut group = Group::open(pace, plan);
     let mut log = SlotList::new(log_slots);
     let played = play(&mut group, orders, &mut log);
     let exported = export(&group, &log, out)?;

@@ -16,7 +16,7 @@ use orders::order::Order;
 use player::fault::FileFault;
 use player::file_pace::FilePace;
 use player::notices::notices;
-use player::opening::open;
+use player::opening::set_up;
 use player::sizes::{INPUT_BYTES, ORDER_SLOTS};
 use slots::SlotList;
 use std::io;
@@ -36,8 +36,8 @@ fn read_and_walk(
     list: &mut SlotList<'_, Order>,
 ) -> Result<io::Result<()>, FileFault> {
     let start = load(bytes, list)?;
-    let group = open(FilePace::new(start)?, start)?;
-    Ok(walk(rt, group, list.as_slice()))
+    let (pace, plan) = set_up(FilePace::new(start)?, start)?;
+    Ok(walk(rt, pace, plan, list.as_slice()))
 }
 
 // Plays a schedule; one that is refused is told as `runfile` tells it.

@@ -2,69 +2,71 @@
 use crate::ends::{tell_ends, tell_file};
 use crate::intro::introduce;
 use crate::tell::{tell, tell_refusal};
-use group::Group;
 use orders::order::Order;
 use pace::Pace;
-use player::play::{PlayFault, own_call, tick_to};
+use player::play::own_call;
 use player::sizes::LOG_SLOTS;
 use protocol::happening::Happening;
-use slots::SlotList;
+use protocol::plan::Plan;
+use protocol::refusal::Refusal;
+use runs::run::Run;
 use std::io;
 
-// Tells what was written from a place of the log on, and then the refusal, if there was one; the answer is handed on.
+// Tells what was written from a place of the log on, and then the refusal, if there was one; the
+// answer is handed on.
 fn tell_since<P: Pace>(
     rt: &impl Print,
-    group: &Group<P>,
-    log: &SlotList<'_, Happening>,
+    run: &Run<'_, P>,
     from: usize,
-    answer: Result<(), PlayFault>,
-) -> io::Result<Result<(), PlayFault>> {
-    let records = log.as_slice();
+    answer: Result<(), Refusal>,
+) -> io::Result<Result<(), Refusal>> {
+    let records = run.log.as_slice();
     for (place, happening) in records.iter().enumerate().skip(from) {
-        tell(rt, group, records, place, *happening)?;
+        tell(rt, &run.group, records, place, *happening)?;
     }
-    if let Err(PlayFault::Refused(refusal)) = answer {
-        tell_refusal(rt, group.clock(), refusal)?;
+    if let Err(refusal) = answer {
+        tell_refusal(rt, run.group.clock(), refusal)?;
     }
     Ok(answer)
 }
 
-// Brings the clock to the order's tick and carries the order out, up to the first refusal. What the ticks wrote is told before that:
-// until then each beat that they sent is still on its leg.
+// Brings the clock to the order's tick and carries the order out, up to the first refusal. What the
+// ticks wrote is told before that: until then each beat that they sent is still on its leg.
 fn obey<P: Pace>(
     rt: &impl Print,
-    group: &mut Group<P>,
-    log: &mut SlotList<'_, Happening>,
+    run: &mut Run<'_, P>,
     order: &Order,
-) -> io::Result<Result<(), PlayFault>> {
-    let from = log.len();
-    let ticked = tick_to(group, log, order.tick);
-    let told = tell_since(rt, group, log, from, ticked)?;
+) -> io::Result<Result<(), Refusal>> {
+    let from = run.log.len();
+    let ticked = run.tick_to(order.tick);
+    let told = tell_since(rt, run, from, ticked)?;
     match own_call(*order) {
         Some(call) if told.is_ok() => {
-            let from = log.len();
-            let answer = group.perform(log, call);
-            tell_since(rt, group, log, from, answer.map_err(PlayFault::Refused))
+            let from = run.log.len();
+            let answer = run.perform(call);
+            tell_since(rt, run, from, answer)
         }
         _ => Ok(told),
     }
 }
 
-// Plays the orders over the group, up to the first refusal; then tells how everybody ended, and the file.
+// Plays the orders over a new group, up to the first refusal; then tells how everybody ended, and
+// the file.
 pub(crate) fn walk<P: Pace + Drop>(
     rt: &HostRuntime,
-    mut group: Group<P>,
+    pace: P,
+    plan: Plan,
     orders: &[Order],
 ) -> io::Result<()> {
     let mut slots = vec![in rt.alloc(); Happening::default(); LOG_SLOTS]?;
-    let mut log = SlotList::new(slots.as_mut_slice());
-    introduce(rt, &group)?;
+    let mut run = Run::open(pace, plan, slots.as_mut_slice());
+    introduce(rt, &run.group)?;
     for (place, order) in orders.iter().enumerate() {
-        if obey(rt, &mut group, &mut log, order)?.is_err() {
+        if obey(rt, &mut run, order)?.is_err() {
             println!(rt; "the playing ends at order {place}")?;
             break;
         }
     }
-    tell_ends(rt, &group)?;
-    tell_file(rt, &group, &log)
+    tell_ends(rt, &run.group)?;
+    tell_file(rt, &run.group, &run.log)
 }

@@ -5,7 +5,8 @@ use Rattle.group.specs.Does.{state, rules as rules_of}
 use Rattle.group.proofs.Staying.{stays_on}
 use Rattle.orders.specs.declared.order.Order.{Order}
 use Rattle.orders.specs.declared.order.OrderKind.TheVariants.{Deliver}
-use Rattle.player.specs.Playing.{calls_for, stop_told}
+use Rattle.slots.specs.Slots.{items}
+use Rattle.player.specs.Playing.{calls_for, fault_told, playing, stop_told}
 use Rattle.player.proofs.Turns.{made_turn}
 use Rattle.player.proofs.Obeying.{no_fault, stopped}
 use Rattle.player.proofs.Playing.{order_on, order_refused, orders_done}
@@ -27,8 +28,8 @@ loop-place-preserved g c =
     let e = c.obey.ensures in
     let y = c.obey.new in
     let o = get_or os x.place-counter nothing in
-    let w = made_turn a x.group y.group l x.log y.log (calls_for x.group.table.clock o) _ i.1 e in (
-      order_on (rules_of a l) _ os x.place-counter o nothing (state x.group x.log) (state y.group y.log) c.loop-place-test.true refl (sym w.0 ∙ no_fault c.obey.result c.in_ok-map_err.ensures.variant) w.1 i.0,
+    let w = made_turn a x.group y.group l x.log y.log (calls_for x.group.table.clock o) (fault_told c.obey.result) i.1 e in (
+      order_on (rules_of a l) (playing (rules_of a l) 0 os (state a l)) os x.place-counter o nothing (state x.group x.log) (state y.group y.log) c.loop-place-test.true refl (sym w.0 ∙ no_fault c.obey.result c.in_ok-map_err.ensures.variant) w.1 i.0,
       stays_on a x.group y.group l x.log y.log i.1 e.stays,
     )
 
@@ -43,12 +44,12 @@ returns-in_err-map_err g c =
     let e = c.obey.ensures in
     let y = c.obey.new in
     let o = get_or os x.place-counter nothing in
-    let w = made_turn a x.group y.group l x.log y.log (calls_for x.group.table.clock o) _ i.1 e in
+    let w = made_turn a x.group y.group l x.log y.log (calls_for x.group.table.clock o) (fault_told c.obey.result) i.1 e in
     let h = c.in_err-map_err.ensures in
     let k = stopped _ _ c.obey.result x.place-counter c.in_err-map_err.field-0.0 h.cases (λ f q. search rules) h.variant in
-    let r = order_refused (rules_of a l) _ os x.place-counter o nothing (state x.group x.log) (state y.group y.log) k.0 c.loop-place-test.true refl (sym w.0 ∙ k.1) w.1 i.0 in
+    let r = order_refused (rules_of a l) (playing (rules_of a l) 0 os (state a l)) os x.place-counter o nothing (state x.group x.log) (state y.group y.log) k.0 c.loop-place-test.true refl (sym w.0 ∙ k.1) w.1 i.0 in
     let p = err_from_is_err_and c.from_residual.result c.from_residual.ensures.1 in
-    ended os _ a y.group l y.log _ (g.met.P.Pace.lawful a.pace) c.as_slice-all.ensures (stays_on a x.group y.group l x.log y.log i.1 e.stays)
+    ended os (items c.args.orders.now) a y.group l y.log c.from_residual.result (g.met.P.Pace.lawful a.pace) c.as_slice-all.ensures (stays_on a x.group y.group l x.log y.log i.1 e.stays)
     r.0 (ap stop_told (p.1 ∙ ap Err p.2) ∙ k.2 ∙ r.1)
 
 pub returns : goal.returns
@@ -58,5 +59,5 @@ returns g c =
     let os = c.as_slice-all.result.now in
     let x = c.loop-place in
     let i = x.invariant in
-    let r = orders_done (rules_of a l) _ os x.place-counter (state x.group x.log) (drop_all x.place-counter os (omega arith)) i.0 in
-    ended os _ a x.group l x.log _ (g.met.P.Pace.lawful a.pace) c.as_slice-all.ensures i.1 r.0 r.1
+    let r = orders_done (rules_of a l) (playing (rules_of a l) 0 os (state a l)) os x.place-counter (state x.group x.log) (drop_all x.place-counter os (omega arith)) i.0 in
+    ended os (items c.args.orders.now) a x.group l x.log _ (g.met.P.Pace.lawful a.pace) c.as_slice-all.ensures i.1 r.0 r.1

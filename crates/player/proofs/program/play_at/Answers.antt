@@ -1,6 +1,7 @@
-use Rattle.std.proofs.Common.{◌≡◌, ℕ, List, Err, Result, sym, refl, ap, ◌∙◌, subst, arith, rules}
+use Rattle.std.proofs.Common.{◌≡◌, ℕ, List, Err, Result, sym, refl, ap, ap₂, ◌∙◌, subst, arith, rules}
 use Rattle.std.proofs.lemmas.Result.{err_from_is_err_and}
-use Rattle.pace.specs.Meaning.{Meaning}
+use Rattle.pace.specs.declared.cap.Cap.{Cap}
+use Rattle.protocol.specs.declared.plan.Plan.{Plan}
 use Rattle.pace.specs.Cap.{capped_meaning}
 use Rattle.pace.specs.laws.Cap.{capped_lawful}
 use Rattle.slots.specs.Slots.{items}
@@ -17,11 +18,11 @@ use Rattle.player.proofs.program.play_at.Given as given
 use Rattle.player.proofs.program.play_at.Goals as goal
 use Rattle.player.proofs.program.play_at.Goals.{After-export}
 
-pub returns-in_err-group-clause-run : goal.returns-in_err-group-clause-run
-returns-in_err-group-clause-run g c =
+pub returns-in_err-pace-clause-run : goal.returns-in_err-pace-clause-run
+returns-in_err-pace-clause-run g c =
     let p = err_from_is_err_and c.from_residual.result c.from_residual.ensures.1 in
     let r = p.1 ∙ ap Err p.2 in
-    let e = c.in_err-group.ensures in
+    let e = c.in_err-pace.ensures in
     not_set_up _ _ _ _ _ _ _ _ e.granted.1 e.refused r
 
 -- what came of it, once the run was exported
@@ -31,17 +32,22 @@ came : (g : given.Over) (c : After-export g) (hs' : List Happening) (r : Result 
 came g c hs' r bytes lines back was prints =
     let means = g.P.Pace.means in
     let start = c.args.start in
-    let group = c.in_ok-group.group in
-    let o = c.in_ok-group.ensures in
+    let o = c.in_ok-pace.ensures in
+    let opened = c.open-group.ensures in
+    let group = c.open-group.result in
     let p = c.play-played.ensures in
     let e = c.export.ensures in
-    let m : Meaning = capped_meaning group.pace.m (means group.pace.pace) in
+    let cap = λ (x : Cap _ _). capped_meaning x.m (means x.pace) in
     let sound = capped_lawful group.pace.m (means group.pace.pace) group.pace.some (g.met.P.Pace.lawful group.pace.pace) in
     let x = c.play-played.new in
-    let same : m ≡ capped_meaning start.cap (means c.args.pace) = ap (λ n. capped_meaning n (means group.pace.pace)) o.pace.1 ∙ ap (λ q. capped_meaning start.cap (means q)) o.pace.0 in
-    set_up start _ m group.plan _ _ hs' _ _ bytes lines (o.granted.0 refl) same o.plan.0 o.plan.1
+    let same : cap group.pace ≡ capped_meaning start.cap (means c.args.pace) =
+    ap cap opened.pace ∙ ap₂ (λ n q. capped_meaning n (means q)) o.pace.1 o.pace.0 in
+    let kind : group.plan.kind ≡ start.kind = ap (λ (q : Plan). q.kind) opened.plan ∙ o.plan.0 in
+    let parties : group.plan.n ≡ start.parties = ap (λ (q : Plan). q.n) opened.plan ∙ o.plan.1 in
+    let new = opened.table ∙ ap₂ (λ (x : Cap _ _) (q : Plan). new_table (cap x).tmax q.kind) (sym opened.pace) (sym opened.plan) in
+    set_up start _ (cap group.pace) group.plan _ _ hs' _ _ bytes lines (o.granted.0 refl) same kind parties
     (played (items c.args.orders.now) c.args.log_slots.now group x.group c.new-log.result x.log c.play-played.result sound
-    (o.table ∙ ap (λ (q : Meaning). new_table q.tmax group.plan.kind) (sym same)) c.new-log.ensures.empty c.new-log.ensures.spare p
+    new c.new-log.ensures.empty c.new-log.ensures.spare p
     hs' c.args.out.now c.export.new.out c.export.result bytes lines
     back e.answer e.bytes e.whole e.cut e.closes e.shown (subst (λ y. Prints y (stop_told c.play-played.result) bytes lines) (sym was) prints))
 
