@@ -12,8 +12,8 @@ From the repository's root, once tools/build.sh has built the programs:
 - it also plays two of the examples cut short at every byte, and with each byte damaged;
 - each text below examples/ composes to the order file beside it;
 - compose writes those bytes too, of each text without damaged records, and of the texts of
-  drawn files; of a text that is wrong it writes none, and tells the line, the number, what is wrong there,
-  the word that it met and what is due in its place;
+  drawn files; of a text that is wrong it writes none, and tells the line, the number, what is wrong
+  there, the word that it met and what is due in its place;
 - the walkthrough plays its own task, and the file it prints last is read too.
 """
 
