@@ -14,7 +14,6 @@ use Rattle.protocol.specs.Rules.{patience}
 use Rattle.protocol.specs.Party.{nobody}
 use Rattle.protocol.specs.calls.Tick.{round_ends}
 use Rattle.protocol.specs.Quiet.{clocked, timer_rests, Rests, Quiet}
-use Rattle.protocol.proofs.Members.{any_take}
 use Rattle.protocol.proofs.Lifts.{none_of_any}
 use Rattle.protocol.proofs.Numbers.{least_patience}
 use Rattle.group.specs.Patience.{silent_for, DoesFor}
@@ -32,7 +31,7 @@ least_does m sound plan t d e none =
       most = most;
       alike = λ k h.
           let p = get_or t.parties k nobody in
-          let f = none_of_any (silent_for d t.clock) 1 plan.n t.parties nobody refl (sym (any_take (silent_for d t.clock) plan.n t.parties) ∙ none) k h in
+          let f = none_of_any (silent_for d t.clock) plan.n t.parties nobody refl none k h in
           f ∙ sym (not_for_longer p.own.standing d (patience m plan.kind) t.clock p refl most f);
     }
 
