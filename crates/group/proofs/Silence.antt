@@ -13,7 +13,7 @@ use Rattle.protocol.specs.declared.table.Table.{Table}
 use Rattle.protocol.specs.Rules.{patience}
 use Rattle.protocol.specs.Party.{nobody}
 use Rattle.protocol.specs.calls.Tick.{round_ends}
-use Rattle.protocol.specs.Quiet.{clocked, timer_rests, Rests, Quiet}
+use Rattle.protocol.specs.Quiet.{with_clock, timer_rests, Rests, Quiet}
 use Rattle.protocol.proofs.Lifts.{none_of_any}
 use Rattle.protocol.proofs.Numbers.{least_patience}
 use Rattle.group.specs.Patience.{silent_for, DoesFor}
@@ -49,7 +49,7 @@ each_rests ps d tmin c rest k =
     ]
 
 -- what is quiet by a patience below D is quiet by D
-pub quiet_by : (m : Meaning) (plan : Plan) (t : Table) (d tmin c : ℕ) → DoesFor m plan t d → tmin ≡ m.tmin → round_ends (clocked c t) ≡ false →
+pub quiet_by : (m : Meaning) (plan : Plan) (t : Table) (d tmin c : ℕ) → DoesFor m plan t d → tmin ≡ m.tmin → round_ends (with_clock c t) ≡ false →
     ((k : ℕ) → k < length (take plan.n t.parties) → Rests d tmin c (get_or (take plan.n t.parties) k nobody)) → Quiet m plan t c
 quiet_by m plan t d tmin c does em round rest =
     record {

@@ -16,7 +16,7 @@ use Rattle.protocol.specs.State.{State}
 use Rattle.protocol.specs.Questions.{asks, log_asks, is_own_log}
 use Rattle.protocol.specs.Runs.{number, perform, unless}
 use Rattle.protocol.specs.Making.{making, Same}
-use Rattle.protocol.specs.Quiet.{clocked, at_clock, timer_rests, Rests, Quiet, QuietUntil}
+use Rattle.protocol.specs.Quiet.{with_clock, at_clock, timer_rests, Rests, Quiet, QuietUntil}
 use Rattle.protocol.proofs.Lifts.{false_any}
 use Rattle.protocol.proofs.Walks.{walks_still}
 use Rattle.protocol.proofs.Making.{same_trans, tick_on}
@@ -48,7 +48,7 @@ pub never_quiet : (m : Meaning) (plan : Plan) (t : Table) → QuietUntil m plan 
 never_quiet m plan t = record { limit = λ h. omega arith; quiet = λ c from before. absurd (omega (arith, before)) }
 
 -- what is quiet from the clock on is quiet from a tick later on
-pub quiet_later : (m : Meaning) (plan : Plan) (t : Table) (b : ℕ) → t.clock < b → QuietUntil m plan t b → QuietUntil m plan (clocked (t.clock + 1) t) b
+pub quiet_later : (m : Meaning) (plan : Plan) (t : Table) (b : ℕ) → t.clock < b → QuietUntil m plan t b → QuietUntil m plan (with_clock (t.clock + 1) t) b
 quiet_later m plan t b h u =
     record { limit = λ after_clock. u.limit h; quiet = λ c from before. let q = u.quiet c (omega (arith, from)) before in record { root = q.root; parties = q.parties } }
 

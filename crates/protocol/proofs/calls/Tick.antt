@@ -28,7 +28,7 @@ use Rattle.protocol.specs.Rules.{Rules, patience, trip}
 use Rattle.protocol.specs.State.{State, happening, runs, with_record}
 use Rattle.protocol.specs.Beats.{FreeFor}
 use Rattle.protocol.specs.Walk.{folds}
-use Rattle.protocol.specs.Told.{account_of, root_told, told_of}
+use Rattle.protocol.specs.Told.{account_of, root_in, account_in}
 use Rattle.protocol.specs.Strikes.{IsStruck}
 use Rattle.protocol.proofs.Lifts.{any_false, false_any, fold_above, fold_below, fold_falls, walks_at, walks_each, walks_long}
 use Rattle.protocol.proofs.Onward.{Onward, folds_onward, sent_push, stay, told}
@@ -430,7 +430,7 @@ module _ (rules : Rules) (i : ℕ) (lo : 1 ≤ i) (hi : i ≤ rules.plan.n) wher
 
   count_tells_party : (s : State) → rules.plan.n ≤ length s.table.parties → TellsParty rules i lo hi s → TellsParty rules i lo hi (after_count rules.plan.n s)
   count_tells_party s long e =
-      walks_each _ _ (λ p. told_of rules.plan.kind i s.log ≡ account_of p) (λ p. told_of rules.plan.kind i s.log ≡ account_of p) (λ j (u : ℕ) p h. h ∙ sym (missed_told p))
+      walks_each _ _ (λ p. account_in rules.plan.kind i s.log ≡ account_of p) (λ p. account_in rules.plan.kind i s.log ≡ account_of p) (λ j (u : ℕ) p h. h ∙ sym (missed_told p))
       1 rules.plan.n 0 s.table.parties nobody (i - 1) (omega arith) (omega arith) e
 
   start_tells_party : (last : ℕ) (s : State) → rules.plan.n ≤ length s.table.parties → TellsParty rules i lo hi s → TellsParty rules i lo hi (after_sending last rules.plan.n s)
@@ -451,12 +451,12 @@ module _ (rules : Rules) (i : ℕ) (lo : 1 ≤ i) (hi : i ≤ rules.plan.n) wher
       (walks_long (λ _ (u : ℕ) p. missed p) (λ _ (u : ℕ) _. u) 1 rules.plan.n 0 s.table.parties rules.plan.n long) (count_tells_party s long e)
   round_tells_party false s long e = e
 
-  timer_there : (w : Option HappeningKind) (c j : ℕ) (log : List Happening) → (j ≡ i → ⊥) → told_of rules.plan.kind i (tells_if w c j log) ≡ told_of rules.plan.kind i log
+  timer_there : (w : Option HappeningKind) (c j : ℕ) (log : List Happening) → (j ≡ i → ⊥) → account_in rules.plan.kind i (tells_if w c j log) ≡ account_in rules.plan.kind i log
   timer_there None c j log h = refl
   timer_there (Some w) c j log h = account_other rules i lo hi log _ h
 
   live_here : (ends calls : Bool) (g : Stage) (c last place j : ℕ) (log : List Happening) (p : Party) → j ≡ i → p.own.standing ≡ Live g →
-      told_of rules.plan.kind i log ≡ account_of p → told_of rules.plan.kind i (tells_if (live_word ends calls g) c j log) ≡ account_of (times_live ends calls g c last place p)
+      account_in rules.plan.kind i log ≡ account_of p → account_in rules.plan.kind i (tells_if (live_word ends calls g) c j log) ≡ account_of (times_live ends calls g c last place p)
   live_here true calls Joins c last place j log p h is e = let f = account_mine rules i lo hi log (happening c j HasStopped (length log)) h in grind arith
   live_here true calls In c last place j log p h is e = let f = account_mine rules i lo hi log (happening c j HasStopped (length log)) h in grind arith
   live_here true calls Leaves c last place j log p h is e = let f = account_mine rules i lo hi log (happening c j HasLeft (length log)) h in grind arith
@@ -464,7 +464,7 @@ module _ (rules : Rules) (i : ℕ) (lo : 1 ≤ i) (hi : i ≤ rules.plan.n) wher
   live_here false false g c last place j log p h is e = e
 
   timer_here : (st : Standing) (c d l last place j : ℕ) (log : List Happening) (p : Party) → j ≡ i → p.own.standing ≡ st →
-      told_of rules.plan.kind i log ≡ account_of p → told_of rules.plan.kind i (timer_log st c d l p.own.since j log) ≡ account_of (times_as st c d l last place p)
+      account_in rules.plan.kind i log ≡ account_of p → account_in rules.plan.kind i (timer_log st c d l p.own.since j log) ≡ account_of (times_as st c d l last place p)
   timer_here Outside c d l last place j log p h is e = e
   timer_here (Live g) c d l last place j log p h is e = live_here (leb d (c - p.own.since)) (calls_in g l (c - p.own.since)) g c last place j log p h is e
   timer_here (Ended how at g) c d l last place j log p h is e = e
@@ -490,7 +490,7 @@ start_tells_root last n s e =
     (λ _ log p. root_conds (on_roll p.note.roll) _ _ _ (root_idle log (happening c 0 Sent (length log)) (λ r. refl)) refl) 1 ∙ e
   where
     passed_over : (n : ℕ) (log : List Happening) (ps : List Party) (g : ℕ → List Happening → Party → List Happening) →
-        ((j : ℕ) (log : List Happening) (p : Party) → root_told (g j log p) ≡ root_told log) → (j : ℕ) → root_told (folds g j n log ps) ≡ root_told log
+        ((j : ℕ) (log : List Happening) (p : Party) → root_in (g j log p) ≡ root_in log) → (j : ℕ) → root_in (folds g j n log ps) ≡ root_in log
     passed_over zero log ps g same j = refl
     passed_over (suc n) log [] g same j = refl
     passed_over (suc n) log (p ∷ ps) g same j = passed_over n (g j log p) ps g same (suc j) ∙ same j log p
@@ -504,7 +504,7 @@ round_tells_root : (b : Bool) (rules : Rules) (s : State) → TellsRoot s → Te
 round_tells_root true rules s e = verdict_tells_root _ rules (after_count rules.plan.n s) e
 round_tells_root false rules s e = e
 
-root_word : (w : Option HappeningKind) (c j : ℕ) (log : List Happening) → 1 ≤ j → root_told (tells_if w c j log) ≡ root_told log
+root_word : (w : Option HappeningKind) (c j : ℕ) (log : List Happening) → 1 ≤ j → root_in (tells_if w c j log) ≡ root_in log
 root_word None c j log h = refl
 root_word (Some w) c j log h = root_other log (happening c j w (length log)) h
 
