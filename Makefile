@@ -1,16 +1,26 @@
-# make demo             builds the walkthrough and runs it on its own task
-# make demo FILE=x      plays the order file x instead
-# make test             the gate: every proof, edit, program and test
-# make clean            removes what was built
+# make demo                   plays the built-in task and prints what it does, with nothing proved:
+#                             in under a minute
+# make demo FILE=x.orders     plays that order file in its place
+# make build                  proves and builds the programs into target/bin/, in some minutes
+# make play SCHEDULE=x.txt    composes the text, plays it, and writes and checks x.graphml beside it
+# make test                   the gate: every proof, edit, program and test
+# make clean                  removes what was built
 
-FILE ?= /dev/null
+PROGRAMS = compose runfile walkthrough
 
-.PHONY: demo test clean
+.PHONY: demo build play test clean
 
 demo:
-	@echo 'proving and building the walkthrough (some minutes the first time)' >&2
-	@bash tools/build.sh walkthrough
-	@target/bin/walkthrough <$(FILE)
+	@bash tools/demo.sh $(FILE)
+
+build:
+	@bash tools/build.sh $(PROGRAMS)
+
+play: target/bin/compose target/bin/runfile
+	@python3 tools/play.py $(SCHEDULE)
+
+target/bin/%:
+	@bash tools/build.sh $*
 
 test:
 	@.ci/run

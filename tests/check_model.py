@@ -260,17 +260,65 @@ def test_what_the_logs_of_drawn_runs_tell():
     assert deliveries > 10_000 and struck > 50, (deliveries, struck)
 
 
+class Single(model.Group):
+    """A group that passes over no tick."""
+
+    def next_stir(self):
+        return self.clock
+
+    def idle_rounds(self, _tick):
+        return 0
+
+
+def check_passing(data):
+    """Passing over ticks and rounds comes to what single ticks come to; answers how many passes over rounds there were."""
+    start, orders = model.read(data)
+    fast, slow = model.open_group(start), model.open_group(start)
+    slow.__class__ = Single
+    passes = []
+    fast.pass_over = lambda rounds: passes.append(rounds) or model.Group.pass_over(fast, rounds)
+    assert model.play(fast, orders) == model.play(slow, orders)
+    del fast.pass_over
+    assert vars(fast) == vars(slow)
+    return len(passes)
+
+
 def test_passing_over_quiet_ticks_changes_nothing():
     rng = random.Random(3)
     for _ in range(200):
         data = schedules.draw_run(rng).data
-        start, orders = model.read(data)
-        fast, slow = model.open_group(start), model.open_group(start)
-        slow.next_stir = lambda group=slow: group.clock
-        if orders and orders[-1].tick > 20_000:
-            continue
-        assert model.play(fast, orders) == model.play(slow, orders)
-        assert (fast.clock, fast.log) == (slow.clock, slow.log)
+        _, orders = model.read(data)
+        if not orders or orders[-1].tick <= 20_000:
+            check_passing(data)
+
+
+def test_passing_over_idle_rounds_changes_nothing():
+    rng = random.Random(6)
+    passes = sum(check_passing(schedules.draw_idler(rng, digits=3).data) for _ in range(300))
+    assert passes > 300, passes
+
+
+class Counting(model.Group):
+    """A group that counts the turns in which it lets time pass: a tick, or as many as it passes over at once."""
+
+    turns = 0
+
+    def next_stir(self):
+        self.turns += 1
+        return super().next_stir()
+
+
+def test_turns_go_by_orders_and_records_and_not_by_the_clock():
+    rng = random.Random(7)
+    at_end = 0
+    for draw in [schedules.draw_idler] * 300 + [schedules.draw_run] * 100:
+        start, orders = model.read(draw(rng).data)
+        group = model.open_group(start)
+        group.__class__ = Counting
+        model.play(group, orders)
+        assert group.turns <= 5 * (len(orders) + len(group.log) + 1)
+        at_end += group.clock == model.LAST_CLOCK
+    assert at_end > 20, at_end
 
 
 def test_text_and_bytes_say_the_same():

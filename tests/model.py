@@ -275,11 +275,9 @@ class Group:
 
     # -- many ticks at once
 
-    def next_stir(self):
-        """The first clock from now on at which a tick may refuse or do more than count."""
+    def party_stirs(self):
+        """The first clock from now on at which a party's beat is due, or its timer does something."""
         stirs = [LAST_CLOCK]
-        if self.root == "running":
-            stirs.append(self.round_start + self.round_length)
         for party in self.parties.values():
             stirs += [beat.last_tick for beat in party.legs.values() if beat]
             if party.state in LIVE:
@@ -288,13 +286,32 @@ class Group:
                 stirs.append(self.clock + -(self.clock - party.last_heard) % self.tmin)
         return min(stirs)
 
+    def next_stir(self):
+        """The first clock from now on at which a tick may refuse or do more than count."""
+        if self.root != "running":
+            return self.party_stirs()
+        return min(self.party_stirs(), self.round_start + self.round_length)
+
+    def idle_rounds(self, tick):
+        """How many rounds from the end of one on, up to `tick`, only move the start of the round."""
+        at_end = self.root == "running" and self.clock == self.round_start + self.round_length
+        if not at_end or self.on_roll():
+            return 0
+        return (min(tick, self.party_stirs()) - self.clock) // self.tmax
+
+    def pass_over(self, rounds):
+        self.clock += rounds * self.tmax
+        self.round_start, self.round_length = self.clock - self.tmax, self.tmax
+
     def tick_until(self, tick):
-        """Ticks one by one until the clock is `tick`, passing over ticks that only count."""
+        """Ticks one by one until the clock is `tick`, passing over ticks that only count and over idle rounds."""
         while self.clock < tick:
             stir = self.next_stir()
             room = self.log_slots - len(self.log) >= 2 * self.n
             if room and stir > self.clock:
                 self.clock = min(stir, tick)
+            elif room and (rounds := self.idle_rounds(tick)):
+                self.pass_over(rounds)
             else:
                 self.tick()
 

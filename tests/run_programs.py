@@ -5,14 +5,16 @@ From the repository's root, once tools/build.sh has built the programs:
 
     python3 tests/run_programs.py [COUNT [SEED]]
 
-- runfile plays every examples/*.orders and COUNT drawn files (400 unless said);
+- runfile plays every order file below examples/ and COUNT drawn files (400 unless said);
   each output is compared with the model's, byte for byte, and each exported file
-  is read by check_graphml;
+  is read by check_graphml; where no file is made, its line stands on standard error too
+  and the status is 1;
 - it also plays two of the examples cut short at every byte, and with each byte damaged;
-- each examples/*.txt composes to the order file beside it;
+- each text below examples/ composes to the order file beside it;
 - compose writes those bytes too, of each text without damaged records, and of the texts of
-  drawn files; of a text that is wrong it writes none, and tells the line, the number and what is wrong there;
-- the walkthrough runs without input, and the file it prints last is read too.
+  drawn files; of a text that is wrong it writes none, and tells the line, the number, what is wrong there,
+  the word that it met and what is due in its place;
+- the walkthrough plays its own task, and the file it prints last is read too.
 """
 
 import pathlib
@@ -41,34 +43,45 @@ TOO_LARGE = (16, "a number is too large")
 NO_SLOT = (12, "more orders than there is room for")
 EARLIER = (14, "the tick is before that of the order before")
 
-# A text that is wrong, the line of the complaint, and the complaint.
+KIND_DUE = "closed, expanding or dynamic"
+ORDER_DUE = "deliver, lose, crash, join, leave or wait"
+PACE_DUE = "halving or two-phase"
+CAP_DUE = "the cap, a number up to 255,"
+PARTIES_DUE = "the number of parties, up to 255,"
+TMAX_DUE = "tmax, a number up to 4294967295,"
+TICK_DUE = "a tick, a number up to 4294967295,"
+END_DUE = "the end of the line"
+
+# A text that is wrong, the line of the complaint, the complaint, and the word that was met with
+# what is due in its place; an empty word is the line's end.
 WRONG_TEXTS = [
-    (b"", 1, NO_START),
-    (b"# nothing but a comment", 2, NO_START),
-    (b"\n \t\r\n\n", 4, NO_START),
-    (b"open 2 halving 1 10 cap 64\n", 1, UNKNOWN),
-    (b"closed2 halving 1 10 cap 64\n", 1, UNKNOWN),
-    (b"Closed 2 halving 1 10 cap 64\n", 1, UNKNOWN),
-    (b"\nclosed 2 slow 1 10 cap 64\n", 2, UNKNOWN),
-    (b"closed 2 halving 1 10 cap\n", 1, MISSING),
-    (b"closed 2 halving # 1 10 cap 64\n", 1, MISSING),
-    (b"closed 2 halving 1 10 64 cap\n", 1, UNKNOWN),
-    (b"closed 2 halving 1 10 cap 64 65\n", 1, TOO_MANY),
-    (b"closed 256 halving 1 10 cap 64\n", 1, TOO_LARGE),
-    (b"closed 2 halving 1 4294967296 cap 64\n", 1, TOO_LARGE),
-    (b"closed 2 halving -1 10 cap 64\n", 1, NO_NUMBER),
-    (b"closed 2 halving 1 99999999999999999999999x cap 64\n", 1, NO_NUMBER),
-    (START + b"wait 4\n", 2, NO_NUMBER),
-    (START + b"4\n", 2, MISSING),
-    (START + b"4 idle\n", 2, UNKNOWN),
-    (START + b"4 wait 0\n", 2, TOO_MANY),
-    (START + b"4 crash\n", 2, MISSING),
-    (START + b"4 crash 1 1\n", 2, TOO_MANY),
-    (START + b"4 deliver 1\n", 2, MISSING),
-    (START + b"4 lose 1 256\n", 2, TOO_LARGE),
-    (START + b"4294967296 wait\n", 2, TOO_LARGE),
-    (START + b"\n4 wait\n# between\n3 wait\n4 idle\n", 5, EARLIER),
-    (START + b"4 wait\n" * 7281, 7282, NO_SLOT),
+    (b"", 1, NO_START, None),
+    (b"# nothing but a comment", 2, NO_START, None),
+    (b"\n \t\r\n\n", 4, NO_START, None),
+    (b"open 2 halving 1 10 cap 64\n", 1, UNKNOWN, ("open", KIND_DUE)),
+    (b"closed2 halving 1 10 cap 64\n", 1, UNKNOWN, ("closed2", KIND_DUE)),
+    (b"Closed 2 halving 1 10 cap 64\n", 1, UNKNOWN, ("Closed", KIND_DUE)),
+    (b"\nclosed 2 slow 1 10 cap 64\n", 2, UNKNOWN, ("slow", PACE_DUE)),
+    (b"closed 2 halving 1 10 cap\n", 1, MISSING, ("", CAP_DUE)),
+    (b"closed 2 halving # 1 10 cap 64\n", 1, MISSING, ("", "tmin, a number up to 4294967295,")),
+    (b"closed 2 halving 1 10 64 cap\n", 1, UNKNOWN, ("64", "the word cap")),
+    (b"closed 2 halving 1 10 cap 64 65\n", 1, TOO_MANY, ("65", END_DUE)),
+    (b"closed 256 halving 1 10 cap 64\n", 1, TOO_LARGE, ("256", PARTIES_DUE)),
+    (b"closed 2 halving 1 4294967296 cap 64\n", 1, TOO_LARGE, ("4294967296", TMAX_DUE)),
+    (b"closed 2 halving -1 10 cap 64\n", 1, NO_NUMBER, ("-1", "tmin, a number up to 4294967295,")),
+    (b"closed 2 halving 1 " + b"9" * 50 + b"x cap 64\n", 1, NO_NUMBER, ("9" * 40, TMAX_DUE)),
+    (b"closed 2 halving 1 10 cap \xff\n", 1, NO_NUMBER, ("\xff", CAP_DUE)),
+    (START + b"wait 4\n", 2, NO_NUMBER, ("wait", TICK_DUE)),
+    (START + b"4\n", 2, MISSING, ("", ORDER_DUE)),
+    (START + b"4 idle\n", 2, UNKNOWN, ("idle", ORDER_DUE)),
+    (START + b"4 wait 0\n", 2, TOO_MANY, ("0", END_DUE)),
+    (START + b"4 crash\n", 2, MISSING, ("", "a party, a number up to 255,")),
+    (START + b"4 crash 1 1\n", 2, TOO_MANY, ("1", END_DUE)),
+    (START + b"4 deliver 1\n", 2, MISSING, ("", "a leg, a number up to 255,")),
+    (START + b"4 lose 1 256\n", 2, TOO_LARGE, ("256", "a leg, a number up to 255,")),
+    (START + b"4294967296 wait\n", 2, TOO_LARGE, ("4294967296", TICK_DUE)),
+    (START + b"\n4 wait\n# between\n3 wait\n4 idle\n", 5, EARLIER, None),
+    (START + b"4 wait\n" * 7281, 7282, NO_SLOT, None),
 ]
 
 # The examples that are wrong on purpose.
@@ -85,13 +98,9 @@ EVEN_TEXTS = [
 ]
 
 
-def run_whole(program, data=b""):
-    return subprocess.run([BIN / program], input=data, capture_output=True, timeout=SECONDS, check=False)
-
-
-def run(program, data=b""):
-    done = run_whole(program, data)
-    return done.returncode, done.stdout
+def run_whole(program, data=b"", *words):
+    return subprocess.run([BIN / program, *words], input=data, capture_output=True,
+                          timeout=SECONDS, check=False)
 
 
 def first_difference(got, wanted):
@@ -104,13 +113,16 @@ def first_difference(got, wanted):
 def check_runfile(data):
     """None, or what is wrong with runfile's output for this input."""
     wanted = model.runfile(data)
-    status, got = run("runfile", data)
+    done = run_whole("runfile", data)
+    status, got, told = done.returncode, done.stdout, done.stderr
     if got != wanted:
         return first_difference(got, wanted)
-    if status != 0:
-        return f"exit status {status}"
     if got.startswith(b"<?xml"):
+        if (status, told) != (0, b""):
+            return f"exit status {status}, and it tells {told!r}"
         return check_file(got)
+    if (status, told) != (1, wanted):
+        return f"no file was made: exit status {status}, and it tells {told!r}"
     return None
 
 
@@ -147,11 +159,15 @@ def check_compose(text, wanted):
     return None
 
 
-def check_complaint(text, line, complaint):
+def check_complaint(text, line, complaint, met=None):
     """None, or what is wrong with what compose tells of a wrong text."""
     number, words = complaint
     done = run_whole("compose", text)
     wanted = f"refused line {line} number {number}: {words}\n".encode()
+    if met:
+        word, due = met
+        front = f"met '{word}'" if word else "the line ends"
+        wanted += f"{front} where {due} is due\n".encode("latin-1")
     if (done.returncode, done.stdout, done.stderr) != (1, b"", wanted):
         return f"exit status {done.returncode}, {len(done.stdout)} bytes, {done.stderr!r} for {wanted!r}"
     return None
@@ -159,7 +175,7 @@ def check_complaint(text, line, complaint):
 
 def composed_examples():
     """The examples whose text is a schedule and no list of damaged records."""
-    for path in sorted((TOP / "examples").glob("*.txt")):
+    for path in sorted((TOP / "examples").rglob("*.txt")):
         text = path.read_bytes()
         if b"bytes " not in text:
             yield path.stem, text
@@ -173,8 +189,8 @@ def compose_checks(drawn):
             yield f"compose {name}", check_compose(text, schedules.compose(text.decode()))
     for place, (text, same) in enumerate(EVEN_TEXTS):
         yield f"compose even text {place}", check_compose(text, schedules.compose(same.decode()))
-    for text, line, complaint in WRONG_TEXTS:
-        yield f"compose {text[:60]!r}", check_complaint(text, line, complaint)
+    for text, line, complaint, met in WRONG_TEXTS:
+        yield f"compose {text[:60]!r}", check_complaint(text, line, complaint, met)
     yield "compose a text that is too long", check_too_long()
     for place, data in enumerate(drawn):
         text = readable(data)
@@ -199,9 +215,10 @@ def readable(data):
 
 
 def check_walkthrough():
-    status, got = run("walkthrough")
-    if status != 0:
-        return f"exit status {status}"
+    done = run_whole("walkthrough", b"", "--demo")
+    got = done.stdout
+    if (done.returncode, done.stderr) != (0, b""):
+        return f"exit status {done.returncode}, and it tells {done.stderr!r}"
     at = got.find(b"\n<?xml") + 1
     if at == 0:
         return "it prints no exported file"
@@ -218,15 +235,14 @@ def spoilt(data):
 
 def checks(count, seed):
     """Name and fault, if any, of each check."""
-    examples = sorted((TOP / "examples").glob("*.orders"))
+    examples = sorted((TOP / "examples").rglob("*.orders"))
     yield "examples", None if examples else "there are none"
     for path in examples:
         yield f"examples/{path.name}", check_example(path)
     for name in SPOILT:
         whole = (TOP / "examples" / f"{name}.orders").read_bytes()
         for how, data in spoilt(whole):
-            if schedules.playable(data):
-                yield f"{name}, {how}", check_runfile(data)
+            yield f"{name}, {how}", check_runfile(data)
     drawn = schedules.drawn(seed, count)
     yield from compose_checks(drawn)
     for place, data in enumerate(drawn):

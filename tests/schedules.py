@@ -204,6 +204,34 @@ def draw_slip(rng, script):
     script.order(kind, rng.randint(0, script.group.n + 1), rng.randint(0, 4), tick)
 
 
+def draw_idler(rng, digits=10):
+    """A run with nobody on the roll for most of the time: between waits of up to so many digits parties come and go."""
+    n = rng.choice([1, 1, 2, 3, rng.randint(1, 32)])
+    pace = rng.choice([model.HALVING, model.TWO_PHASE])
+    cap = rng.choice([64, 1, 2, 3])
+    script = Script(rng.choice([model.EXPANDING, model.DYNAMIC, model.DYNAMIC]), n, pace, *draw_limits(rng), cap)
+    for _ in range(rng.randint(1, 8)):
+        tick = script.group.clock + int(10 ** rng.uniform(0, digits))
+        script.order(model.WAIT, tick=min(tick, 0xFFFF_FFFF))
+        draw_visit(rng, script, rng.randint(1, n))
+        if script.refusal is not None:
+            break
+    return script
+
+
+def draw_visit(rng, script, i):
+    """A party joins, and mostly it is heard and leaves again, or nobody hears it and it stops."""
+    group = script.group
+    heard = model.DELIVER if group.kind == model.DYNAMIC else model.LOSE
+    kind = rng.choice([heard] * 7 + [model.DELIVER, model.LOSE])
+    for call, state in ((model.JOIN, "outside"), (model.LEAVE, "in")):
+        may = call == model.JOIN or group.kind == model.DYNAMIC
+        if may and script.refusal is None and group.parties[i].state == state:
+            script.order(call, i)
+            stay = rng.choice([3 * group.tmax, group.patience, rng.randint(0, 2 * group.tmax)])
+            script.until(group.clock + stay, late=rng.random() < 0.5, kind=kind)
+
+
 def damage(rng, data):
     """The file cut short, with changed bytes, with records turned, or with bytes behind it."""
     data = bytearray(data)
@@ -226,23 +254,13 @@ def damage(rng, data):
     return bytes(data)
 
 
-LATEST_TICK = 2_000_000     # a root with nobody on its roll still ends a round every tmax ticks, so a test waits no longer
-
-
-def playable(data):
-    try:
-        _, orders = model.read(data[:model.INPUT_BYTES])
-    except model.ReaderFault:
-        return True
-    return not orders or orders[-1].tick <= LATEST_TICK
-
-
 def draw(rng):
     """One order file."""
-    data = draw_run(rng).data
+    run = draw_idler(rng) if rng.random() < 0.2 else draw_run(rng)
+    data = run.data
     while rng.random() < 0.25:
         data = damage(rng, data)
-    return data if playable(data) else draw(rng)
+    return data
 
 
 def drawn(seed, count):

@@ -55,7 +55,7 @@ def bare(text):
         if not use:
             types = types or not re.match(r"(?:pub )?mod ", code)
             kept.append(item)
-        elif use[1] in CRATES + ["std", "crate", "self", "super"] and not any(f".{lemmas}." in code for lemmas in LEMMAS):
+        elif use[1] in CRATES + ["std", "arrayvec", "crate", "self", "super"] and not any(f".{lemmas}." in code for lemmas in LEMMAS):
             kept.append(item if code.startswith("ghost ") else only_types(item))
     left = "".join(item for item in kept if types or not re.match(r"(?:ghost |pub |pub\(crate\) )?use ", first_code(item)))
     return re.sub(r"(?m)^ *#\[(?:derive\(.*\)|default)\]\n", "", left)
@@ -99,4 +99,4 @@ def make(crates, work):
     modules = "".join(f"pub mod {crate};\n" for crate in CRATES)
     (work / "crates/bare/src/lib.rt").write_text(f"#![tactic(auto)]\n\n{modules}")
     (work / "crates/bare/specs/Lib.antt").write_text(modules.replace(";", ""))
-    (work / "crates.txt").write_text("bare:\n")
+    (work / "crates.txt").write_text("bare: arrayvec\n")

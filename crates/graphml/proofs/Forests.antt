@@ -2,9 +2,9 @@
 use Rattle.std.proofs.Common.{◌≡◌, ℕ, ◌+◌, ◌≤◌, true, false, length, sym, ap, ◌∙◌, add-zero, arith, leb-false}
 use borrow.Author.Tests.{lt-leb}
 use Rattle.markup.specs.Forests.{Forest, none, element, count}
-use Rattle.markup.specs.Cut.{all_fits, kept}
+use Rattle.markup.specs.Cut.{all_fits, fitting_part}
 use Rattle.markup.specs.Held.{has_room}
-use Rattle.markup.proofs.Kept.{kept_stop, kept_first, count_on, count_begun}
+use Rattle.markup.proofs.Kept.{fitting_part_stop, kept_first, count_on, count_begun}
 use Rattle.markup.proofs.Filling.{with_none, first_whole as held_first_whole, framed as held_framed, room_left}
 use Rattle.graphml.specs.Elements.{spelling, Tag, opening, closing}
 use Rattle.graphml.specs.Counts.{is_happening, is_edge}
@@ -19,7 +19,7 @@ drawn_none s = same_state (with_none spelling s.out) (add-zero _) (add-zero _)
 
 pub stops : (s : Writer) (t : Tag) (i a : Forest Tag) → has_room s.out (opening t) (length (closing t)) ≡ false →
     drawn s (element t i a) ≡ s
-stops s t i a p = ap (after s) (kept_stop spelling s.out.room t i a p) ∙ drawn_none s
+stops s t i a p = ap (after s) (fitting_part_stop spelling s.out.room t i a p) ∙ drawn_none s
 
 -- what comes after an element
 module _ (s : Writer) (t : Tag) (i a : Forest Tag) (sound : s.out.at + s.out.room ≤ length s.out.bytes) where
@@ -31,8 +31,8 @@ module _ (s : Writer) (t : Tag) (i a : Forest Tag) (sound : s.out.at + s.out.roo
       × (all_fits spelling s.out.room (element t i a) ≡ all_fits spelling (drawn s first).out.room a)
   first_whole p =
       let x = held_first_whole spelling s.out t i a sound p in
-      let counts : (of : Tag → ℕ) → count of (kept spelling s.out.room (element t i a)) ≡ count of (kept spelling s.out.room first) + count of (kept spelling (drawn s first).out.room a) =
-      λ of. count_on spelling of s.out.room t i a p ∙ ap (λ k. count of (kept spelling s.out.room first) + count of (kept spelling k a)) (sym (room_left spelling s.out t i p)) in
+      let counts : (of : Tag → ℕ) → count of (fitting_part spelling s.out.room (element t i a)) ≡ count of (fitting_part spelling s.out.room first) + count of (fitting_part spelling (drawn s first).out.room a) =
+      λ of. count_on spelling of s.out.room t i a p ∙ ap (λ k. count of (fitting_part spelling s.out.room first) + count of (fitting_part spelling k a)) (sym (room_left spelling s.out t i p)) in
       let h = counts is_happening in
       let e = counts is_edge in
       (same_state x.0 (omega arith) (omega arith), x.1)

@@ -20,8 +20,8 @@ use Rattle.markup.proofs.Back.{same_bytes, number_decimal}
 use Rattle.graphml.proofs.Scanned.{node_attrs, edge_attrs}
 use Rattle.graphml.proofs.Growing.{Framed, put, frame_grown}
 use Rattle.graphml.proofs.Told.{things, read}
-use Rattle.markup.proofs.Kept.{chosen, kept_each}
-use Rattle.markup.specs.Cut.{kept}
+use Rattle.markup.proofs.Kept.{chosen, fitting_part_each}
+use Rattle.markup.specs.Cut.{fitting_part}
 use Rattle.markup.specs.Forests.{Forest, none, element, Each}
 
 lines_framed : (pick : Happening → Bool) (tag : ℕ → Happening → Tag) → ((k : ℕ) (h : Happening) → Framed (tag k h)) → (k : ℕ) (hs : List Happening) → Each Framed (lines_of pick tag k hs)
@@ -39,8 +39,8 @@ pub body_framed : (log : List Happening) (n : ℕ) → Each Framed (body log n)
 body_framed log n = parties_framed log 0 (n + 1)
 
 -- what is written of the body closes
-pub part_closes : (log : List Happening) (n room : ℕ) → Closes (in_frame (kept spelling room (body log n)))
-part_closes log n room = rw (frame_grown (kept spelling room (body log n)) (kept_each spelling Framed room (body log n) (body_framed log n))) refl
+pub part_closes : (log : List Happening) (n room : ℕ) → Closes (in_frame (fitting_part spelling room (body log n)))
+part_closes log n room = rw (frame_grown (fitting_part spelling room (body log n)) (fitting_part_each spelling Framed room (body log n) (body_framed log n))) refl
 
 same_test : (kind : HappeningKind) → is_arrived kind ≡ arrives kind
 same_test Sent = refl

@@ -5,10 +5,10 @@ use Rattle.protocol.specs.declared.happening.Happening.{Happening}
 use Rattle.graphml.specs.Texts.{head, tail, node_line, node_end, graph_line, graph_end, happening_line, edge_line}
 use Rattle.graphml.specs.Elements.{spelling, Tag, run, node, graph, happened, edge}
 use Rattle.graphml.specs.Answer.{in_frame}
-use Rattle.markup.specs.Marks.{Attribute, Mark, starts, stops, spoken, marks}
-use Rattle.markup.specs.Closing.{Content, empty, element as holds, Opened, grown, sole, document, tree}
+use Rattle.markup.specs.Marks.{Attribute, Mark, starts, stops, text_marks, marks}
+use Rattle.markup.specs.Closing.{Content, empty, element as holds, OpenElement, content_from, sole_element, document, tree}
 use Rattle.markup.proofs.Joined.{four}
-use Rattle.markup.proofs.Nesting.{line, attr, fed, said, grown_said, at}
+use Rattle.markup.proofs.Nesting.{line, attr, fed, said, content_from_said, at}
 use Rattle.graphml.proofs.Scanned.{directed, node_attrs, graph_attrs, edge_attrs, happening_attrs, node_read, graph_read, edge_read, happening_read}
 use Rattle.markup.specs.Forests.{Forest, none, element, render, Each}
 
@@ -35,7 +35,7 @@ put c (element (graph x) i a) = put (holds (fed c) (codes "graph") (graph_attrs 
 put c (element (happened k h) i a) = put (put (holds (fed c) (codes "node") (happening_attrs k) (happening_data h)) i) a
 put c (element (edge k l) i a) = put (put (holds (fed c) (codes "edge") (edge_attrs k l) empty) i) a
 
-pub forest_grown : (f : Forest Tag) → Each Framed f → (o : Opened) (os : List Opened) (c : Content) (rest : List ℕ) → grown (o ∷ os) c (line (render spelling f ++ rest)) ≡ grown (o ∷ os) (put c f) (line rest)
+pub forest_grown : (f : Forest Tag) → Each Framed f → (o : OpenElement) (os : List OpenElement) (c : Content) (rest : List ℕ) → content_from (o ∷ os) c (line (render spelling f ++ rest)) ≡ content_from (o ∷ os) (put c f) (line rest)
 forest_grown none h o os c rest = refl
 forest_grown (element run i a) h o os c rest = absurd h.0
 forest_grown (element (node x) i a) h o os c rest =
@@ -49,14 +49,14 @@ forest_grown (element (graph x) i a) h o os c rest =
 forest_grown (element (happened k w) i a) h o os c rest =
     let after : List ℕ = render spelling i ++ (render spelling a ++ rest) in
     let end : List Mark = stops (codes "data") ∷ stops (codes "node") ∷ line after in
-    let mid : List Mark = stops (codes "data") ∷ starts (codes "data") (attr (codes "key") (codes "k") ∷ []) ∷ (spoken (word w.kind) ++ end) in
-    let own : Opened = at (fed c) (codes "node") (happening_attrs k) in
-    let tick : Opened = at empty (codes "data") (attr (codes "key") (codes "t") ∷ []) in
-    let kind : Opened = at (datum_in empty (codes "t") (decimal w.tick)) (codes "data") (attr (codes "key") (codes "k") ∷ []) in
+    let mid : List Mark = stops (codes "data") ∷ starts (codes "data") (attr (codes "key") (codes "k") ∷ []) ∷ (text_marks (word w.kind) ++ end) in
+    let own : OpenElement = at (fed c) (codes "node") (happening_attrs k) in
+    let tick : OpenElement = at empty (codes "data") (attr (codes "key") (codes "t") ∷ []) in
+    let kind : OpenElement = at (datum_in empty (codes "t") (decimal w.tick)) (codes "data") (attr (codes "key") (codes "k") ∷ []) in
     let here : Content = holds (fed c) (codes "node") (happening_attrs k) (happening_data w) in
     rw (four (happening_line k w) (render spelling i) [] (render spelling a) rest, happening_read k w after)
-    (grown_said (tick ∷ own ∷ o ∷ os) empty (decimal w.tick) mid
-    ∙ grown_said (kind ∷ own ∷ o ∷ os) empty (word w.kind) end
+    (content_from_said (tick ∷ own ∷ o ∷ os) empty (decimal w.tick) mid
+    ∙ content_from_said (kind ∷ own ∷ o ∷ os) empty (word w.kind) end
     ∙ forest_grown i h.1 o os here (render spelling a ++ rest)
     ∙ forest_grown a h.2 o os (put here i) rest)
 forest_grown (element (edge k l) i a) h o os c rest =
@@ -88,5 +88,5 @@ pub frame_grown : (f : Forest Tag) → Each Framed f → tree (in_frame f) ≡ S
 unfolding tree head tail
 frame_grown f h =
     let all : document (marks (head ++ (render spelling f ++ tail))) ≡ Some (framed (put empty f)) =
-    ap sole (forest_grown f h (at (fed keys_in) (codes "graph") run_attrs) (at (fed empty) (codes "graphml") file_attrs ∷ []) empty tail) in
+    ap sole_element (forest_grown f h (at (fed keys_in) (codes "graph") run_attrs) (at (fed empty) (codes "graphml") file_attrs ∷ []) empty tail) in
     ap (λ (bs : List ℕ). document (marks bs)) (append_assoc head (render spelling f) tail) ∙ all

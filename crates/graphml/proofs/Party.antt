@@ -8,8 +8,8 @@ use Rattle.graphml.specs.Writer.{Writer, Sound, wrote, opened, drawn}
 use Rattle.graphml.specs.Numbers.{Fits}
 use Rattle.graphml.proofs.Forests.{stops, framed}
 use Rattle.graphml.proofs.Sounds.{sound_opened}
-use Rattle.markup.proofs.Kept.{kept_stop, each_begun}
-use Rattle.markup.specs.Cut.{kept}
+use Rattle.markup.proofs.Kept.{fitting_part_stop, each_begun}
+use Rattle.markup.specs.Cut.{fitting_part}
 use Rattle.markup.specs.Held.{has_room}
 use Rattle.markup.specs.Forests.{Forest, none, element, Each}
 
@@ -38,16 +38,16 @@ module _ {s n : Writer} (i : ℕ) (hs : List Happening) (h : Sound s 20) (p : tr
       k ∙ ap (λ t. wrote t node_end) (g ∙ ap (λ t. wrote t graph_end) (d ∙ ap (λ t. drawn t (happenings_of i 0 hs)) b) ∙ sym z) ∙ sym begun
 
   -- what fits of what is inside the node
-  node_numbers : i < 2 ^ 64 → Each Fits (kept spelling o.out.room inner) → Each Fits (kept spelling s.out.room (party_then hs i none))
+  node_numbers : i < 2 ^ 64 → Each Fits (fitting_part spelling o.out.room inner) → Each Fits (fitting_part spelling s.out.room (party_then hs i none))
   node_numbers small inside = each_begun spelling Fits s.out.room (node i) inner (sym p) small inside
 
-  pub no_graph_numbers : i < 2 ^ 64 → false ≡ has_room n.out (graph_line i) 9 → Each Fits (kept spelling s.out.room (party_then hs i none))
+  pub no_graph_numbers : i < 2 ^ 64 → false ≡ has_room n.out (graph_line i) 9 → Each Fits (fitting_part spelling s.out.room (party_then hs i none))
   no_graph_numbers small q =
-      node_numbers small (subst (Each Fits) (sym (kept_stop spelling o.out.room (graph i) (happenings_of i 0 hs) none (sym (q ∙ ap (λ t. has_room t.out (graph_line i) 9) e)))) tt)
+      node_numbers small (subst (Each Fits) (sym (fitting_part_stop spelling o.out.room (graph i) (happenings_of i 0 hs) none (sym (q ∙ ap (λ t. has_room t.out (graph_line i) 9) e)))) tt)
 
-  pub all_numbers : {u : Writer} → i < 2 ^ 64 → true ≡ has_room n.out (graph_line i) 9 → u ≡ opened n (graph_line i) 9 → Each Fits (kept spelling u.out.room (happenings_of i 0 hs)) → Each Fits (kept spelling s.out.room (party_then hs i none))
+  pub all_numbers : {u : Writer} → i < 2 ^ 64 → true ≡ has_room n.out (graph_line i) 9 → u ≡ opened n (graph_line i) 9 → Each Fits (fitting_part spelling u.out.room (happenings_of i 0 hs)) → Each Fits (fitting_part spelling s.out.room (party_then hs i none))
   all_numbers {u} small q f inside =
       let b = f ∙ ap (λ t. opened t (graph_line i) 9) e in
       node_numbers small
       (each_begun spelling Fits o.out.room (graph i) (happenings_of i 0 hs) (sym (q ∙ ap (λ t. has_room t.out (graph_line i) 9) e)) tt
-      (subst (λ (t : Writer). Each Fits (kept spelling t.out.room (happenings_of i 0 hs))) b inside))
+      (subst (λ (t : Writer). Each Fits (fitting_part spelling t.out.room (happenings_of i 0 hs))) b inside))

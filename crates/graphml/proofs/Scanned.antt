@@ -3,7 +3,7 @@ use Rattle.std.proofs.Common.{◌≡◌, ℕ, List, [], ◌∷◌, ◌++◌, cod
 use Rattle.protocol.specs.Words.{word}
 use Rattle.protocol.specs.declared.happening.Happening.{Happening}
 use Rattle.graphml.specs.Texts.{node_line, graph_line, happening_line, edge_line}
-use Rattle.markup.specs.Marks.{Attribute, Mark, starts, stops, stands, spoken}
+use Rattle.markup.specs.Marks.{Attribute, Mark, starts, stops, stands, text_marks}
 use Rattle.markup.proofs.Digits.{text_on, decimal_plain, value_past}
 use Rattle.markup.proofs.Nesting.{feed, line, attr}
 use Rattle.markup.proofs.Joined.{four, seven}
@@ -62,7 +62,7 @@ data_marks key said ms = starts (codes "data") (attr (codes "key") key ∷ []) �
 
 abbrev pub happening_marks : ℕ → Happening → List Mark → List Mark
 happening_marks k h ms =
-    starts (codes "node") (happening_attrs k) ∷ data_marks (codes "t") (spoken (decimal h.tick)) (data_marks (codes "k") (spoken (word h.kind)) (stops (codes "node") ∷ ms))
+    starts (codes "node") (happening_attrs k) ∷ data_marks (codes "t") (text_marks (decimal h.tick)) (data_marks (codes "k") (text_marks (word h.kind)) (stops (codes "node") ∷ ms))
 
 pub happening_read : (k : ℕ) (h : Happening) (rest : List ℕ) → line (happening_line k h ++ rest) ≡ feed ∷ happening_marks k h (line rest)
 unfolding happening_line
@@ -73,4 +73,4 @@ happening_read k h rest =
     ap (λ (bs : List ℕ). line (codes "<node id=\"h" ++ bs)) (seven (decimal k) (codes "\"><data key=\"t\">") (decimal h.tick) (codes "</data><data key=\"k\">") (word h.kind) (codes "</data></node>\n") rest)
     ∙ ap fed (value_past (codes "node") (codes "id") [] (codes "h") k (codes "\"><data key=\"t\">" ++ (decimal h.tick ++ kind)))
     ∙ ap start (text_on [] (decimal h.tick) kind (decimal_plain h.tick))
-    ∙ ap (λ (ms : List Mark). start (spoken (decimal h.tick) ++ (stops (codes "data") ∷ starts (codes "data") (attr (codes "key") (codes "k") ∷ []) ∷ ms))) (text_on [] (word h.kind) end (word_plain h.kind))
+    ∙ ap (λ (ms : List Mark). start (text_marks (decimal h.tick) ++ (stops (codes "data") ∷ starts (codes "data") (attr (codes "key") (codes "k") ∷ []) ∷ ms))) (text_on [] (word h.kind) end (word_plain h.kind))

@@ -4,7 +4,7 @@ use Rattle.protocol.specs.declared.happening.Happening.{Happening}
 use Rattle.graphml.specs.Elements.{spelling, Tag, run, node, graph, happened, edge}
 use Rattle.graphml.specs.Body.{is_owned, is_arrival, arrival_edge, lines_of, parties_from, body}
 use Rattle.markup.proofs.Kept.{chosen}
-use Rattle.markup.specs.Cut.{size, cost, kept, all_fits}
+use Rattle.markup.specs.Cut.{size, cost, fitting_part, all_fits}
 use Rattle.markup.specs.Forests.{Forest, none, element}
 
 -- where an element stands: right in the graph of the whole, in a party's node, in a party's graph, or in a line
@@ -43,12 +43,12 @@ abbrev pub Shaped : Where → Forest Tag → Type 0
 Shaped w none = Unit {0}
 Shaped w (element t i a) = Stands w t × Shaped (within t) i × Shaped w a
 
-pub kept_shaped : (w : Where) (room : ℕ) (f : Forest Tag) → Shaped w f → Shaped w (kept spelling room f)
+pub kept_shaped : (w : Where) (room : ℕ) (f : Forest Tag) → Shaped w f → Shaped w (fitting_part spelling room f)
 kept_shaped w room none h = tt
 kept_shaped w room (element t i a) h =
     let left : ℕ = room - size spelling t in
-    let on : Forest Tag = element t i (kept spelling (left - cost spelling i) a) in
-    let cut : Forest Tag = element t (kept spelling left i) none in
+    let on : Forest Tag = element t i (fitting_part spelling (left - cost spelling i) a) in
+    let cut : Forest Tag = element t (fitting_part spelling left i) none in
     chosen (Shaped w) (leb (size spelling t) room) (cond (all_fits spelling left i) on cut) none
     (chosen (Shaped w) (all_fits spelling left i) on cut (h.0, h.1, kept_shaped w (left - cost spelling i) a h.2) (h.0, kept_shaped (within t) left i h.1, tt)) tt
 

@@ -2,12 +2,12 @@
 use Rattle.std.proofs.Common.{◌≡◌, ℕ, ◌+◌, ◌<◌, true, List, length, sym, ap, ◌∙◌, subst, arith, leb-true, zero-add}
 use Rattle.graphml.specs.Writer.{Writer, Sound, opened}
 use Rattle.markup.specs.Held.{has_room}
-use Rattle.text.proofs.Placed.{length_placed}
+use Rattle.text.proofs.Placed.{length-with_text_at}
 
 pub sound_opened : (s : Writer) (o : List ℕ) (n k : ℕ) → Sound s k → has_room s.out o n ≡ true → Sound (opened s o n) (n + k)
 sound_opened s o n k h p =
     let q = leb-true _ _ p in
-    let l = length_placed s.out.bytes s.out.at o (omega arith) in
+    let l = length-with_text_at s.out.bytes s.out.at o (omega arith) in
     record { fits = omega arith; few = omega arith }
 
 -- after a line that is not empty, one more may be counted

@@ -24,8 +24,8 @@ use Rattle.graphml.specs.Log.{entry, all_read}
 use Rattle.graphml.proofs.Scanned.{node_attrs, graph_attrs, edge_attrs, happening_attrs}
 use Rattle.graphml.proofs.Shapes.{in_run, in_node, in_graph, Shaped}
 use Rattle.graphml.proofs.Growing.{Framed, happening_data, put, framed, frame_grown}
-use Rattle.markup.proofs.Kept.{kept_stop, kept_cut, kept_on}
-use Rattle.markup.specs.Cut.{size, cost, kept, all_fits}
+use Rattle.markup.proofs.Kept.{fitting_part_stop, fitting_part_cut, fitting_part_on}
+use Rattle.markup.specs.Cut.{size, cost, fitting_part, all_fits}
 use Rattle.markup.specs.Forests.{Forest, none, element, count, Each}
 
 pub kind_back : (k : HappeningKind) → kind_named (word k) ≡ Some k
@@ -171,7 +171,7 @@ regroup a b c d = ap (λ (l : List Item). a ++ l) (sym (append_assoc b c d)) ∙
 abbrev pub StartsAs : List Item → List Item → Type 0
 StartsAs xs all = (rest : List Item) × (all ≡ xs ++ rest)
 
-pub kept_first : (i room : ℕ) (f : Forest Tag) → StartsAs (things i (kept spelling room f)) (things i f)
+pub kept_first : (i room : ℕ) (f : Forest Tag) → StartsAs (things i (fitting_part spelling room f)) (things i f)
 kept_first i room none = ([], refl)
 kept_first i room (element t f a) =
     let left : ℕ = room - size spelling t in
@@ -182,22 +182,22 @@ kept_first i room (element t f a) =
     let e = kept_first i (left - cost spelling f) a in (
       e.0,
       ap (λ (l : List Item). mark i t ++ (things (whose i t) f ++ l)) e.1
-          ∙ regroup (mark i t) (things (whose i t) f) (things i (kept spelling (left - cost spelling f) a)) e.0
-          ∙ ap (λ g. things i g ++ e.0) (sym (kept_on spelling room t f a x y)),
+          ∙ regroup (mark i t) (things (whose i t) f) (things i (fitting_part spelling (left - cost spelling f) a)) e.0
+          ∙ ap (λ g. things i g ++ e.0) (sym (fitting_part_on spelling room t f a x y)),
     ))
     (λ y.
     let e = kept_first (whose i t) left f in (
       e.0 ++ things i a,
       ap (λ (l : List Item). mark i t ++ (l ++ things i a)) e.1
-          ∙ ap (λ (l : List Item). mark i t ++ l) (append_assoc (things (whose i t) (kept spelling left f)) e.0 (things i a) ∙ ap (λ (l : List Item). l ++ (e.0 ++ things i a)) (sym (append-nil (things (whose i t) (kept spelling left f)))))
-          ∙ sym (append_assoc (mark i t) (things (whose i t) (kept spelling left f) ++ []) (e.0 ++ things i a))
-          ∙ ap (λ g. things i g ++ (e.0 ++ things i a)) (sym (kept_cut spelling room t f a x y)),
+          ∙ ap (λ (l : List Item). mark i t ++ l) (append_assoc (things (whose i t) (fitting_part spelling left f)) e.0 (things i a) ∙ ap (λ (l : List Item). l ++ (e.0 ++ things i a)) (sym (append-nil (things (whose i t) (fitting_part spelling left f)))))
+          ∙ sym (append_assoc (mark i t) (things (whose i t) (fitting_part spelling left f) ++ []) (e.0 ++ things i a))
+          ∙ ap (λ g. things i g ++ (e.0 ++ things i a)) (sym (fitting_part_cut spelling room t f a x y)),
     ))
     (cases_Bool (all_fits spelling left f)))
-    (λ x. (things i (element t f a), ap (λ g. things i g ++ things i (element t f a)) (sym (kept_stop spelling room t f a x))))
+    (λ x. (things i (element t f a), ap (λ g. things i g ++ things i (element t f a)) (sym (fitting_part_stop spelling room t f a x))))
     (cases_Bool (leb (size spelling t) room))
 
-pub first_taken : (i room : ℕ) (f : Forest Tag) → things i (kept spelling room f) ≡ take (length (things i (kept spelling room f))) (things i f)
+pub first_taken : (i room : ℕ) (f : Forest Tag) → things i (fitting_part spelling room f) ≡ take (length (things i (fitting_part spelling room f))) (things i f)
 first_taken i room f =
     let e = kept_first i room f in
-    sym (ap (take (length (things i (kept spelling room f)))) e.1 ∙ take-append_seam (things i (kept spelling room f)) e.0)
+    sym (ap (take (length (things i (fitting_part spelling room f)))) e.1 ∙ take-append_seam (things i (fitting_part spelling room f)) e.0)

@@ -4,7 +4,7 @@ use Rattle.std.specs.List.{flat_map, All}
 use Rattle.std.proofs.lemmas.List.{take_at, length-map}
 use Rattle.protocol.specs.declared.happening.Happening.{Happening}
 use Rattle.protocol.specs.Beats.{edges}
-use Rattle.text.specs.Bytes.{placed}
+use Rattle.text.specs.Bytes.{with_text_at}
 use Rattle.text.proofs.Placed.{reached}
 use Rattle.graphml.specs.declared.answer.Exported.{Exported}
 use Rattle.graphml.specs.declared.answer.Refusal.{Refusal}
@@ -24,7 +24,7 @@ use Rattle.graphml.proofs.Growing.{Framed}
 use Rattle.graphml.proofs.Told.{things, frame_told, all_counted, edges_counted, first_taken}
 use Rattle.graphml.proofs.Once.{places_once, places_once_at_most, fewer, ends_found}
 use Rattle.graphml.proofs.Found.{part_closes, body_framed, body_is, edges_found, happenings_found, parties_found, keys_found, graphs_found}
-use Rattle.markup.proofs.Kept.{kept_le, kept_whole, length_render, kept_each}
+use Rattle.markup.proofs.Kept.{fitting_part_le, fitting_part_whole, length_render, fitting_part_each}
 use Rattle.markup.specs.Cut.{all_fits}
 use Rattle.markup.specs.Forests.{Forest, render, count, Each}
 use Rattle.graphml.specs.Elements.{Tag, spelling}
@@ -55,9 +55,9 @@ module _ (out : List ℕ) (log : List Happening) (n : ℕ) (h : 275 ≤ length o
   finished {lent} {s} {t} {u} p q r =
       let lh = length_head in
       let lp = length_render spelling fit in
-      let le = kept_le spelling (length out - 275) (body log n) in
+      let le = fitting_part_le spelling (length out - 275) (body log n) in
       let l1 = length-append head (render spelling fit) in
-      let r1 = reached out 0 head (placed out 0 head) (0 + length head) (render spelling fit) (omega arith) (refl, refl) in
+      let r1 = reached out 0 head (with_text_at out 0 head) (0 + length head) (render spelling fit) (omega arith) (refl, refl) in
       let r2 = reached out 0 (head ++ render spelling fit) _ _ tail (omega arith) r1 in
       subst (Finished lent) (sym (r ∙ ap (λ x. wrote x tail) (q ∙ ap (λ x. drawn x (body log n)) p))) (record {
         bytes = r2.0 ∙ ap (λ k. text ++ drop k out) (zero-add (length text));
@@ -94,7 +94,7 @@ module _ (out : List ℕ) (log : List Happening) (n : ℕ) (h : 275 ≤ length o
 
   -- all of it was written
   all_kept : whole ≡ true → fit ≡ body log n
-  all_kept w = kept_whole spelling (length out - 275) (body log n) (leb-true _ _ w)
+  all_kept w = fitting_part_whole spelling (length out - 275) (body log n) (leb-true _ _ w)
 
   pub whole_text : {out' : List ℕ} {k : ℕ} → whole ≡ true → out' ≡ over text out → k ≡ length text → take k out' ≡ in_frame (body log n)
   whole_text w e f = front e f ∙ ap in_frame (all_kept w)
@@ -103,7 +103,7 @@ module _ (out : List ℕ) (log : List Happening) (n : ℕ) (h : 275 ≤ length o
   module _ (small : n < 2 ^ 64) (fits : Each Fits fit) where
     told : items_read text ≡ all_read (things 0 fit)
     told =
-        frame_told fit (kept_each spelling Framed (length out - 275) (body log n) (body_framed log n)) (kept_shaped in_run (length out - 275) (body log n) (body_shaped log n)) fits
+        frame_told fit (fitting_part_each spelling Framed (length out - 275) (body log n) (body_framed log n)) (kept_shaped in_run (length out - 275) (body log n) (body_shaped log n)) fits
 
     first : things 0 fit ≡ take (count is_happening fit + count is_edge fit) (items_of n log)
     first = first_taken 0 (length out - 275) (body log n) ∙ (λ i. take (all_counted 0 fit i) (body_is log n i))
@@ -123,8 +123,8 @@ module _ (out : List ℕ) (log : List Happening) (n : ℕ) (h : 275 ≤ length o
       first_part = told ∙ ap all_read first;
       all_counted = ap (λ (l : List (Option Item)). length l) told ∙ length-map (things 0 fit) (λ x. Some x) ∙ all_counted 0 fit;
       edges_counted = ap (λ (l : List (Option Item)). length (flat_map edge_of l)) told ∙ edges_counted 0 fit;
-      keys = keys_found fit (kept_each spelling Framed (length out - 275) (body log n) (body_framed log n));
-      one_graph = graphs_found fit (kept_each spelling Framed (length out - 275) (body log n) (body_framed log n));
+      keys = keys_found fit (fitting_part_each spelling Framed (length out - 275) (body log n) (body_framed log n));
+      one_graph = graphs_found fit (fitting_part_each spelling Framed (length out - 275) (body log n) (body_framed log n));
       no_place_twice = λ k.
           let few = ap (λ (l : List (Option Item)). times k (flat_map place_of l)) (told ∙ ap all_read first) in
           let part = fewer k (count is_happening fit + count is_edge fit) (items_of n log) in

@@ -7,7 +7,7 @@ use Rattle.graphml.specs.declared.answer.Refusal.TheVariants.{LogDiffers, ShortO
 use Rattle.graphml.specs.Elements.{Tag, spelling, run, opening, closing}
 use Rattle.graphml.specs.Body.{body}
 use Rattle.graphml.specs.Counts.{is_happening, is_edge}
-use Rattle.markup.specs.Cut.{kept, all_fits}
+use Rattle.markup.specs.Cut.{fitting_part, all_fits}
 use Rattle.markup.specs.Forests.{Forest, render, count}
 
 abbrev pub refusal_number : Refusal → ℕ
@@ -20,7 +20,7 @@ in_frame f = opening run ++ render spelling f ++ closing run
 
 -- what an output of cap bytes has room for beside the frame's 275 bytes
 abbrev pub part : List Happening → ℕ → ℕ → Forest Tag
-part log n cap = kept spelling (cap - 275) (body log n)
+part log n cap = fitting_part spelling (cap - 275) (body log n)
 
 -- out, with its first bytes overwritten by text
 abbrev pub over : List ℕ → List ℕ → List ℕ

@@ -6,7 +6,7 @@ use Rattle.protocol.specs.declared.happening.HappeningKind.TheVariants.{Sent, Ar
 use Rattle.protocol.specs.Beats.{Edge, edge}
 use Rattle.markup.specs.Marks.{Attribute}
 use Rattle.markup.specs.Closing.{Content, tree}
-use Rattle.markup.specs.Reading.{Reader, value_at, id_of, number, numbered, each_in, text_in, sole_text, in_tree}
+use Rattle.markup.specs.Reading.{Reader, value_at, id_of, number_in, number_behind, each_in, text_in, sole_text, in_tree}
 
 -- a happening as a file shows it
 pub record Entry : Type 0 where
@@ -21,10 +21,10 @@ pub data Item : Type 0 where
 
 -- i where an id is p<i>, and k where it is h<k>
 abbrev pub party_named : List ℕ → Option ℕ
-party_named = numbered 112
+party_named = number_behind 112
 
 abbrev pub place_named : List ℕ → Option ℕ
-place_named = numbered 104
+place_named = number_behind 104
 
 abbrev pub kind_named : List ℕ → Option HappeningKind
 kind_named t =
@@ -67,7 +67,7 @@ are_two _ = false
 abbrev pub happening_told : Option ℕ → List Attribute → Content → Option Item
 happening_told i xs inside =
     if are_two (each_in is_datum inside)
-    then happening i (place_named (id_of xs)) (number (datum (codes "t") inside)) (kind_named (datum (codes "k") inside))
+    then happening i (place_named (id_of xs)) (number_in (datum (codes "t") inside)) (kind_named (datum (codes "k") inside))
     else None
 
 abbrev pub edge_told : List Attribute → Option Item

@@ -1,20 +1,20 @@
 -- What the writer holds, and what writing does to it.
 use Rattle.std.specs.Prelude.{ℕ, ◌+◌, ◌≤◌, List, length}
 use Rattle.markup.specs.Forests.{Forest, count}
-use Rattle.markup.specs.Cut.{kept}
-use Rattle.markup.specs.Held.{Held, held, with_text, with_opening, with_forest}
+use Rattle.markup.specs.Cut.{fitting_part}
+use Rattle.markup.specs.Held.{OutputState, output_state, with_text, with_opening, with_forest}
 use Rattle.markup.specs.declared.output.Output.{Output}
 use Rattle.graphml.specs.declared.output.Counts.{Counts}
 use Rattle.graphml.specs.Elements.{Tag, spelling}
 use Rattle.graphml.specs.Counts.{is_happening, is_edge}
 
 pub record Writer : Type 0 where
-  pub out : Held
+  pub out : OutputState
   pub happenings : ℕ
   pub edges : ℕ
 
 abbrev pub writer : Output Counts → Writer
-writer o = record { out = held o; happenings = o.counts.happenings; edges = o.counts.edges }
+writer o = record { out = output_state o; happenings = o.counts.happenings; edges = o.counts.edges }
 
 -- so many bytes are set aside for closings; each counted line has at least a byte
 pub record Sound (o : Writer) (closings : ℕ) : Type 0 where
@@ -39,4 +39,4 @@ after s f = record {
 
 -- after what fits of a forest
 abbrev pub drawn : Writer → Forest Tag → Writer
-drawn s f = after s (kept spelling s.out.room f)
+drawn s f = after s (fitting_part spelling s.out.room f)

@@ -7,7 +7,7 @@ ghost use Rattle.graphml.specs.Elements.{spelling, happened, edge};
 ghost use Rattle.graphml.specs.Numbers.{Fits};
 ghost use Rattle.graphml.specs.Writer.{writer, Sound, wrote, opened, drawn};
 ghost use Rattle.markup.specs.Held.{has_room};
-ghost use Rattle.markup.specs.Cut.{all_fits, kept};
+ghost use Rattle.markup.specs.Cut.{all_fits, fitting_part};
 ghost use Rattle.markup.specs.Forests.{one, Each};
 
 use super::lines;
@@ -65,7 +65,7 @@ impl RunGraph {
         requires { Sound (writer out.old) 20 }
         ensures whole { is_ok result ≡ all_fits spelling (writer out.old).out.room (one (edge source target)) }
         ensures after { writer out.new ≡ drawn (writer out.old) (one (edge source target)) }
-        ensures numbers { Each Fits (kept spelling (writer out.old).out.room (one (edge source target))) }
+        ensures numbers { Each Fits (fitting_part spelling (writer out.old).out.room (one (edge source target))) }
         ensures sound { Sound (writer out.new) 20 }
     {
         begin(out, lines::edge_line(source, target).as_slice(), 0)?;
@@ -120,7 +120,7 @@ impl PartyGraph {
         requires { Sound (writer out.old) 37 }
         ensures whole { is_ok result ≡ all_fits spelling (writer out.old).out.room (one (happened place happening.now)) }
         ensures after { writer out.new ≡ drawn (writer out.old) (one (happened place happening.now)) }
-        ensures numbers { Each Fits (kept spelling (writer out.old).out.room (one (happened place happening.now))) }
+        ensures numbers { Each Fits (fitting_part spelling (writer out.old).out.room (one (happened place happening.now))) }
         ensures sound { Sound (writer out.new) 37 }
     {
         begin(out, lines::happening_line(place, happening).as_slice(), 0)?;

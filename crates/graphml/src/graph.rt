@@ -3,7 +3,7 @@ ghost use Rattle.std.specs.Prelude.{◌≡◌, is_ok};
 ghost use Rattle.graphml.specs.Numbers.{Fits};
 ghost use Rattle.graphml.specs.Body.{happenings_of, edges_from, is_arrived, party_then, body};
 ghost use Rattle.graphml.specs.Writer.{writer, Sound, drawn};
-ghost use Rattle.markup.specs.Cut.{all_fits, kept};
+ghost use Rattle.markup.specs.Cut.{all_fits, fitting_part};
 ghost use Rattle.markup.specs.Forests.{none, Each};
 ghost use Rattle.graphml.specs.Elements.{spelling};
 
@@ -22,7 +22,7 @@ fn write_happenings(
     requires { Sound (writer out.old) 37 }
     ensures whole { is_ok result ≡ all_fits spelling (writer out.old).out.room (happenings_of party 0 log.now) }
     ensures after { writer out.new ≡ drawn (writer out.old) (happenings_of party 0 log.now) }
-    ensures numbers { Each Fits (kept spelling (writer out.old).out.room (happenings_of party 0 log.now)) }
+    ensures numbers { Each Fits (fitting_part spelling (writer out.old).out.room (happenings_of party 0 log.now)) }
     ensures sound { Sound (writer out.new) 37 }
 {
     for (place, happening) in log.iter().enumerate() {
@@ -43,7 +43,7 @@ fn write_party(
     requires { Sound (writer out.old) 20 }
     ensures whole { is_ok result ≡ all_fits spelling (writer out.old).out.room (party_then log.now party none) }
     ensures after { writer out.new ≡ drawn (writer out.old) (party_then log.now party none) }
-    ensures numbers { Each Fits (kept spelling (writer out.old).out.room (party_then log.now party none)) }
+    ensures numbers { Each Fits (fitting_part spelling (writer out.old).out.room (party_then log.now party none)) }
     ensures sound { Sound (writer out.new) 20 }
 {
     let node = run.open_node(out, party)?;
@@ -65,7 +65,7 @@ fn write_edges(out: &mut RunOutput, run: &RunGraph, log: &[Happening]) -> Result
     requires { Sound (writer out.old) 20 }
     ensures whole { is_ok result ≡ all_fits spelling (writer out.old).out.room (edges_from 0 log.now) }
     ensures after { writer out.new ≡ drawn (writer out.old) (edges_from 0 log.now) }
-    ensures numbers { Each Fits (kept spelling (writer out.old).out.room (edges_from 0 log.now)) }
+    ensures numbers { Each Fits (fitting_part spelling (writer out.old).out.room (edges_from 0 log.now)) }
     ensures sound { Sound (writer out.new) 20 }
 {
     for (place, happening) in log.iter().enumerate() {
@@ -92,7 +92,7 @@ pub(crate) fn write_body(
     requires { Sound (writer out.old) 20 }
     ensures whole { is_ok result ≡ all_fits spelling (writer out.old).out.room (body log.now parties) }
     ensures after { writer out.new ≡ drawn (writer out.old) (body log.now parties) }
-    ensures numbers { Each Fits (kept spelling (writer out.old).out.room (body log.now parties)) }
+    ensures numbers { Each Fits (fitting_part spelling (writer out.old).out.room (body log.now parties)) }
     ensures sound { Sound (writer out.new) 20 }
 {
     for party in 0..=u16::from(parties) {

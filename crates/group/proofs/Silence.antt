@@ -11,7 +11,7 @@ use Rattle.protocol.specs.declared.party.Standing.TheVariants.{Outside, Live, En
 use Rattle.protocol.specs.declared.plan.Plan.{Plan}
 use Rattle.protocol.specs.declared.table.Table.{Table}
 use Rattle.protocol.specs.Rules.{patience}
-use Rattle.protocol.specs.Party.{nobody}
+use Rattle.protocol.specs.Party.{nobody, on_roll}
 use Rattle.protocol.specs.calls.Tick.{round_ends}
 use Rattle.protocol.specs.Quiet.{with_clock, timer_rests, Rests, Quiet}
 use Rattle.protocol.proofs.Lifts.{none_of_any}
@@ -48,15 +48,23 @@ each_rests ps d tmin c rest k =
       | inr h ↦ subst (Rests d tmin c) (sym (get_or_past ps k nobody h)) (record { legs = refl; timer = refl })
     ]
 
+-- who rests by a patience below D rests by D
+pub rests_by : (m : Meaning) (plan : Plan) (t : Table) (d tmin c : ℕ) → DoesFor m plan t d → tmin ≡ m.tmin →
+    ((k : ℕ) → k < length (take plan.n t.parties) → Rests d tmin c (get_or (take plan.n t.parties) k nobody)) →
+    (k : ℕ) → k < plan.n → Rests (patience m plan.kind) m.tmin c (get_or t.parties k nobody)
+rests_by m plan t d tmin c does em rest k h =
+    let p = get_or t.parties k nobody in
+    let member = subst (Rests d tmin c) (get_or-take plan.n t.parties k nobody h) (each_rests (take plan.n t.parties) d tmin c rest k) in
+    let r = subst (λ (x : ℕ). Rests d x c p) em member in
+    record { legs = r.legs; timer = rests_for_longer p.own.standing d (patience m plan.kind) m.tmin (c - p.own.since) does.most r.timer }
+
 -- what is quiet by a patience below D is quiet by D
 pub quiet_by : (m : Meaning) (plan : Plan) (t : Table) (d tmin c : ℕ) → DoesFor m plan t d → tmin ≡ m.tmin → round_ends (with_clock c t) ≡ false →
     ((k : ℕ) → k < length (take plan.n t.parties) → Rests d tmin c (get_or (take plan.n t.parties) k nobody)) → Quiet m plan t c
-quiet_by m plan t d tmin c does em round rest =
-    record {
-      root = round;
-      parties = λ k h.
-          let p = get_or t.parties k nobody in
-          let member = subst (Rests d tmin c) (get_or-take plan.n t.parties k nobody h) (each_rests (take plan.n t.parties) d tmin c rest k) in
-          let r = subst (λ (x : ℕ). Rests d x c p) em member in
-          record { legs = r.legs; timer = rests_for_longer p.own.standing d (patience m plan.kind) m.tmin (c - p.own.since) does.most r.timer };
-    }
+quiet_by m plan t d tmin c does em round rest = record { root = round; parties = rests_by m plan t d tmin c does em rest }
+
+-- nobody of the plan is on the roll
+pub nobody_on_roll : (plan : Plan) (t : Table) → list_any (λ (p : Party). on_roll p.note.roll) (take plan.n t.parties) ≡ false →
+    (k : ℕ) → k < plan.n → on_roll (get_or t.parties k nobody).note.roll ≡ false
+nobody_on_roll plan t none =
+    none_of_any (λ (p : Party). on_roll p.note.roll) plan.n t.parties nobody refl none

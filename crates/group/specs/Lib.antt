@@ -6,3 +6,4 @@ pub mod Passes
 pub mod Advance
 pub mod Named
 pub mod Patience
+pub mod Until

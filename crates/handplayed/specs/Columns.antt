@@ -5,21 +5,20 @@ use Rattle.pace.specs.Limits.{limits_no}
 use Rattle.pace.specs.Cap.{count_no}
 use Rattle.pace.specs.Listed.{waits_no}
 use Rattle.slots.specs.declared.refusal.Refusal.{Refusal as ListRefusal}
-use Rattle.slots.specs.Refusals.{number as list_number}
+use Rattle.slots.specs.Refusals.{slot_refusal_number as list_number}
 use Rattle.slots.specs.Slots.{append_answer, first_place}
 use Rattle.protocol.specs.declared.call.Call.{Call}
 use Rattle.protocol.specs.declared.happening.Happening.{Happening}
 use Rattle.protocol.specs.declared.kind.GroupKind.{GroupKind}
 use Rattle.protocol.specs.declared.party.Roll.{Roll}
 use Rattle.protocol.specs.declared.party.Standing.{Standing}
-use Rattle.protocol.specs.declared.plan.Plan.{Plan}
 use Rattle.protocol.specs.declared.table.Root.{Root}
 use Rattle.protocol.specs.declared.table.Root.TheVariants.{Running}
 use Rattle.protocol.specs.Words.{kind_number}
-use Rattle.protocol.specs.Patience.{patience}
+use Rattle.protocol.specs.Rules.{Rules, patience}
 use Rattle.protocol.specs.Plans.{parties_no}
-use Rattle.protocol.specs.Group.{Play}
-use Rattle.protocol.specs.Runs.{played, answered}
+use Rattle.protocol.specs.State.{State}
+use Rattle.protocol.specs.Runs.{state_after, numbers}
 use Rattle.graphml.specs.declared.answer.Exported.{Exported}
 use Rattle.graphml.specs.declared.answer.Refusal.{Refusal}
 use Rattle.graphml.specs.Answer.{refusal_number}
@@ -29,19 +28,17 @@ use Rattle.orders.specs.declared.order.Order.{Order}
 use Rattle.orders.specs.declared.order.OrderKind.TheVariants.{Wait}
 use Rattle.orders.specs.declared.start.Start.{Start}
 use Rattle.orders.specs.Faults.{fault_number}
-use Rattle.orders.specs.Loading.{loaded}
+use Rattle.orders.specs.Loading.{load_outcome}
 use Rattle.orders.specs.Writing.{bytes_of_file}
 use Rattle.player.specs.declared.notices.PlayedFile.{PlayedFile}
 use Rattle.player.specs.declared.notices.RefusedFile.{RefusedFile}
-use Rattle.player.specs.Playing.{Playing, plays}
+use Rattle.player.specs.Playing.{Playing, playing}
 use Rattle.player.specs.Notices.{notice_lines}
 
--- a group before its calls: its pace and plan, the slots that are lent for its log, its table and log
+-- a group before its calls: what it goes by, and its table and log
 pub record Setting : Type 0 where
-  pub pace : Meaning
-  pub plan : Plan
-  pub slots : ℕ
-  pub before : Play
+  pub rules : Rules
+  pub before : State
 
 pub data Given : Type 0 where
   -- questions on a set-up: on two limits, on waits between them, on a number of waits, on a number of parties
@@ -124,7 +121,7 @@ sent_at [] = []
 sent_at (h ∷ log) = cond (kind_number h.kind == 1) (h.tick ∷ sent_at log) (sent_at log)
 
 -- what is seen of a group of such a pace, of n parties, after calls that got such answers
-abbrev pub of_run : Outcome → ℕ → List ℕ → Play → Outcome
+abbrev pub of_run : Outcome → ℕ → List ℕ → State → Outcome
 of_run o n answers s = record o {
   answers = answers;
   clock = s.table.clock;
@@ -137,7 +134,7 @@ of_run o n answers s = record o {
 
 -- the number of what was refused, its place, and what is seen of the group
 abbrev pub of_orders : Outcome → ℕ → Playing → Outcome
-of_orders o n x = record (of_run o n (x.stop.number ∷ []) x.play) { place = x.stop.order }
+of_orders o n x = record (of_run o n (x.stop.number ∷ []) x.state) { place = x.stop.order }
 
 abbrev pub of_export : Result Exported Refusal → List ℕ → Outcome
 of_export (Ok x) out = record nothing { answers = 0 ∷ []; answer = Some x; output = out }
@@ -163,12 +160,16 @@ outcome (cap m) = answers_with (count_no m)
 outcome (parties n) = answers_with (parties_no n)
 outcome (pace kind m) = of_pace kind m
 outcome (calls g cs) =
-    of_run (of_pace g.plan.kind g.pace) g.plan.n (answered g.pace g.plan g.slots cs g.before) (played g.pace g.plan g.slots cs g.before)
+    of_run (of_pace g.rules.plan.kind g.rules.meaning) g.rules.plan.n
+    (numbers g.rules cs g.before) (state_after g.rules cs g.before)
 outcome (export g cs room) =
-    let s = played g.pace g.plan g.slots cs g.before in
-    of_export (export_answer s g.plan.n room) (export_bytes s g.plan.n (replicate room 46))
-outcome (orders g os) = of_orders (of_pace g.plan.kind g.pace) g.plan.n (plays g.pace g.plan g.slots 0 os g.before)
-outcome (reading bs room) = let x = loaded bs [] (replicate room no_order) in of_reading x.answer x.items
+    let s = state_after g.rules cs g.before in
+    of_export (export_answer s g.rules.plan.n room)
+    (export_bytes s g.rules.plan.n (replicate room 46))
+outcome (orders g os) =
+    of_orders (of_pace g.rules.plan.kind g.rules.meaning) g.rules.plan.n
+    (playing g.rules 0 os g.before)
+outcome (reading bs room) = let x = load_outcome bs [] (replicate room no_order) in of_reading x.answer x.items
 outcome (writing s os) = record nothing { output = bytes_of_file s os }
 outcome (notice x) = record nothing { output = notice_lines x }
 outcome (append ticks t room) = answers_with (append_number (append_answer (λ tick. tick) ticks (replicate room 0) t))

@@ -19,7 +19,8 @@ use Rattle.protocol.specs.declared.table.Root.{Root}
 use Rattle.protocol.specs.declared.table.Root.TheVariants.{Running, Down}
 use Rattle.protocol.specs.declared.table.RootEnding.TheVariants.{Crashed, Stopped}
 use Rattle.protocol.specs.Party.{beat, noted, owning, legs_of, party}
-use Rattle.protocol.specs.Group.{happens, opened}
+use Rattle.protocol.specs.Rules.{Rules}
+use Rattle.protocol.specs.State.{happening, opening}
 use Rattle.handplayed.specs.Columns.{Setting}
 
 -- paces
@@ -51,16 +52,16 @@ root_crashed at = Down Crashed at
 
 -- a new group, with slots enough for its log
 abbrev pub new : Meaning → Plan → Setting
-new m plan = record { pace = m; plan = plan; slots = 100; before = opened m plan }
+new m plan =
+    let rules : Rules = record { meaning = m; plan = plan; room = 100 } in
+    record { rules = rules; before = opening rules }
 
 -- a beat whose last tick is the clock is under way to a party that is in
 abbrev pub with_beat : (slots clock : ℕ) → Setting
 with_beat slots clock =
     let p : Party = party (noted On false 0) (owning (Live In) clock) (legs_of (Some (beat clock false 0)) None None) in
     record {
-      pace = halves 2 4;
-      plan = one Dynamic;
-      slots = slots;
+      rules = record { meaning = halves 2 4; plan = one Dynamic; room = slots };
       before = record { table = record { clock = clock; root = Running; start = clock - 2; length = 4; logged = 0; parties = replicate 32 p }; log = [] };
     }
 
@@ -70,7 +71,7 @@ beside log counted g = record g { before = record { table = record g.before.tabl
 
 -- a record that tells of that tick
 abbrev pub record_at : ℕ → List Happening
-record_at t = happens t 0 Sent 0 ∷ []
+record_at t = happening t 0 Sent 0 ∷ []
 
 -- calls
 

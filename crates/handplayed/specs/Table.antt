@@ -1,6 +1,6 @@
 -- Examples worked by hand from the rules alone: one table.
 use Rattle.std.specs.Prelude.{◌≡◌, ℕ, true, false, List, [], ◌∷◌, ◌++◌, map, replicate, Some, None, Ok, Err, codes}
-use Rattle.pace.specs.Cap.{capped}
+use Rattle.pace.specs.Cap.{capped_meaning}
 use Rattle.protocol.specs.declared.call.Call.{Call}
 use Rattle.protocol.specs.declared.call.Call.TheVariants.{Tick, Deliver, Lose, Crash, Join, Leave}
 use Rattle.protocol.specs.declared.kind.GroupKind.TheVariants.{Closed, Expanding, Dynamic}
@@ -70,10 +70,10 @@ paces =
     ∷ example (pace Closed (halves 3 10)) record nothing { waits = 10 ∷ 5 ∷ []; total = 15; patience = 25 }
     ∷ example (pace Closed (halves 10 10)) record nothing { waits = 10 ∷ []; total = 10; patience = 20 }
     ∷ example (pace Closed (two_phases 75 7200)) record nothing { waits = 7200 ∷ replicate 63 75; total = 11925; patience = 19125 }
-    ∷ example (pace Closed (capped 10 (two_phases 75 7200))) record nothing { waits = 7200 ∷ replicate 9 75; total = 7875; patience = 15075 }
-    ∷ example (pace Expanding (capped 10 (two_phases 75 7200))) record nothing { waits = 7200 ∷ replicate 9 75; total = 7875; patience = 15150 }
+    ∷ example (pace Closed (capped_meaning 10 (two_phases 75 7200))) record nothing { waits = 7200 ∷ replicate 9 75; total = 7875; patience = 15075 }
+    ∷ example (pace Expanding (capped_meaning 10 (two_phases 75 7200))) record nothing { waits = 7200 ∷ replicate 9 75; total = 7875; patience = 15150 }
     -- a cap beyond the waits leaves them
-    ∷ example (pace Closed (capped 64 (halves 5 10))) record nothing { waits = 10 ∷ 5 ∷ []; total = 15; patience = 25 }
+    ∷ example (pace Closed (capped_meaning 64 (halves 5 10))) record nothing { waits = 10 ∷ 5 ∷ []; total = 15; patience = 25 }
     ∷ example (pace Dynamic (lists 4 10 (10 ∷ 10 ∷ 4 ∷ []))) record nothing { waits = 10 ∷ 10 ∷ 4 ∷ []; total = 24; patience = 38 }
     ∷ []
 

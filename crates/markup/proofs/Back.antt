@@ -5,7 +5,7 @@ use Rattle.std.proofs.lemmas.Str.Parse.{IsNumeralModel, numerals_by_fold}
 use Rattle.std.proofs.lemmas.Fmt.{digits_value-decimal}
 use Rattle.text.specs.Numeral.{read_on}
 use Rattle.markup.specs.Closing.{empty}
-use Rattle.markup.specs.Reading.{number, text_in}
+use Rattle.markup.specs.Reading.{number_in, text_in}
 use Rattle.markup.proofs.Nesting.{said}
 
 own : IsNumeralModel (λ ds. all_ascii_digits ds ≡ true) (read_on 0)
@@ -15,7 +15,7 @@ pub same_bytes : (bs : List ℕ) → bytes_eq bs bs ≡ true
 same_bytes [] = refl
 same_bytes (b ∷ bs) = rw (eq-eqb b b refl) (same_bytes bs)
 
-pub number_decimal : (n : ℕ) → n < 2 ^ 64 → number (decimal n) ≡ Some n
+pub number_decimal : (n : ℕ) → n < 2 ^ 64 → number_in (decimal n) ≡ Some n
 number_decimal n h = rw (digits_value-decimal own n h, same_bytes (decimal n)) refl
 
 pub said_back : (t : List ℕ) → text_in (said empty t) ≡ t

@@ -1,22 +1,22 @@
 -- Digits have none of the bytes that end a value or a text.
 use Rattle.std.proofs.Common.{◌≡◌, ℕ, zero, suc, ◌+◌, ◌/◌, ◌%◌, ◌<◌, ◌≤◌, ◌==◌, Bool, true, false, cond, List, [], ◌∷◌, ◌++◌, decimal, ap, ◌∙◌, append_assoc, append-nil, ne_eqb, arith, lt-ltb}
 use Rattle.std.specs.Fmt.{digits, digits_onto, digit_glyph}
-use Rattle.markup.specs.Marks.{Attribute, class, other, text, valued, scan}
+use Rattle.markup.specs.Marks.{Attribute, class, other, in_text, in_value, scan}
 
 abbrev pub Plain : List ℕ → Type 0
 Plain [] = Unit {0}
 Plain (c ∷ cs) = (class c ≡ other) × Plain cs
 
 -- the scanner takes plain bytes into the value or the text at hand
-pub value_on : (n k : List ℕ) (xs : List Attribute) (v ds rest : List ℕ) → Plain ds → scan (valued n xs k v) (ds ++ rest) ≡ scan (valued n xs k (v ++ ds)) rest
+value_on : (n k : List ℕ) (xs : List Attribute) (v ds rest : List ℕ) → Plain ds → scan (in_value n xs k v) (ds ++ rest) ≡ scan (in_value n xs k (v ++ ds)) rest
 value_on n k xs v [] rest p = rw append-nil
 value_on n k xs v (d ∷ ds) rest p =
-    rw p.0 (value_on n k xs (v ++ (d ∷ [])) ds rest p.1 ∙ ap (λ (u : List ℕ). scan (valued n xs k u) rest) (append_assoc v (d ∷ []) ds))
+    rw p.0 (value_on n k xs (v ++ (d ∷ [])) ds rest p.1 ∙ ap (λ (u : List ℕ). scan (in_value n xs k u) rest) (append_assoc v (d ∷ []) ds))
 
-pub text_on : (v ds rest : List ℕ) → Plain ds → scan (text v) (ds ++ rest) ≡ scan (text (v ++ ds)) rest
+pub text_on : (v ds rest : List ℕ) → Plain ds → scan (in_text v) (ds ++ rest) ≡ scan (in_text (v ++ ds)) rest
 text_on v [] rest p = rw append-nil
 text_on v (d ∷ ds) rest p =
-    rw p.0 (text_on (v ++ (d ∷ [])) ds rest p.1 ∙ ap (λ (u : List ℕ). scan (text u) rest) (append_assoc v (d ∷ []) ds))
+    rw p.0 (text_on (v ++ (d ∷ [])) ds rest p.1 ∙ ap (λ (u : List ℕ). scan (in_text u) rest) (append_assoc v (d ∷ []) ds))
 
 digit_plain : (c : ℕ) → 48 ≤ c → c ≤ 57 → class c ≡ other
 digit_plain c h k =
@@ -53,5 +53,5 @@ decimal_plain n = onto_plain 64 n [] tt
 
 -- past a number in a value
 pub value_past : (n k : List ℕ) (xs : List Attribute) (v : List ℕ) (i : ℕ) (rest : List ℕ) →
-    scan (valued n xs k v) (decimal i ++ rest) ≡ scan (valued n xs k (v ++ decimal i)) rest
+    scan (in_value n xs k v) (decimal i ++ rest) ≡ scan (in_value n xs k (v ++ decimal i)) rest
 value_past n k xs v i rest = value_on n k xs v (decimal i) rest (decimal_plain i)

@@ -16,25 +16,25 @@ all_fits w room f = nat_le (cost w f) room
 
 -- what is written of a forest: an element is begun only if its opening and its closing fit beside
 -- the closings of all that is open; the first that does not fit ends the writing
-abbrev pub kept : {T : Type 0} → Spelling T → ℕ → Forest T → Forest T
-kept w room none = none
-kept w room (element t i a) =
+abbrev pub fitting_part : {T : Type 0} → Spelling T → ℕ → Forest T → Forest T
+fitting_part w room none = none
+fitting_part w room (element t i a) =
     cond
     (nat_le (size w t) room)
     (cond
     (all_fits w (room - size w t) i)
-    (element t i (kept w (room - size w t - cost w i) a))
-    (element t (kept w (room - size w t) i) none))
+    (element t i (fitting_part w (room - size w t - cost w i) a))
+    (element t (fitting_part w (room - size w t) i) none))
     none
 
 -- the elements in the order in which they are begun
-abbrev pub begun : {T : Type 0} → Forest T → List T
-begun none = []
-begun (element t i a) = t ∷ (begun i ++ begun a)
+abbrev pub elements : {T : Type 0} → Forest T → List T
+elements none = []
+elements (element t i a) = t ∷ (elements i ++ elements a)
 
 -- the elements written are the first ones of all, and the next did not fit beside them
 pub record EndsAt {T : Type 0} (w : Spelling T) (room : ℕ) (f : Forest T) : Type 0 where
   pub next : T
   pub rest : List T
-  pub order : begun f ≡ begun (kept w room f) ++ (next ∷ rest)
-  pub full : room < cost w (kept w room f) + size w next
+  pub order : elements f ≡ elements (fitting_part w room f) ++ (next ∷ rest)
+  pub full : room < cost w (fitting_part w room f) + size w next

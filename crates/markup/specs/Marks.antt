@@ -1,13 +1,14 @@
--- The marks that stand in the bytes of an XML file, found byte by byte with no knowledge of who wrote them.
+-- The marks in the bytes of an XML file, found byte by byte with no knowledge of who wrote them.
 use Rattle.std.specs.Prelude.{ℕ, ◌==◌, List, [], ◌∷◌, ◌++◌, if◌then◌else◌}
 
 pub record Attribute : Type 0 where
   pub key : List ℕ
   pub value : List ℕ
 
--- a declaration, a start tag, an end tag, the tag of an empty element, the text between two tags, or what is none of these
+-- a declaration, a start tag, an end tag, the tag of an empty element, the text between two tags, or
+-- what is none of these
 pub data Mark : Type 0 where
-  declared : Mark
+  declares : Mark
   starts : List ℕ → List Attribute → Mark
   stops : List ℕ → Mark
   stands : List ℕ → List Attribute → Mark
@@ -38,89 +39,93 @@ class c =
     (if c == 32 then blank else
     (if c == 10 then blank else other))))))))
 
--- where the scanner is, with what it has read of the mark at hand: the text, the name, the attributes, the key, the value
-pub data Place : Type 0 where
-  text : List ℕ → Place
-  opened : Place
-  declaring : Place
-  asked : Place
-  stopping : List ℕ → Place
-  naming : List ℕ → Place
-  within : List ℕ → List Attribute → Place
-  keyed : List ℕ → List Attribute → List ℕ → Place
-  equalled : List ℕ → List Attribute → List ℕ → Place
-  valued : List ℕ → List Attribute → List ℕ → List ℕ → Place
-  quoted : List ℕ → List Attribute → Place
-  slashed : List ℕ → List Attribute → Place
-  broken : Place
+-- where the scanner is, with what it has read of the mark at hand: the text, the name, the attributes,
+-- the key, the value
+pub data Scanner : Type 0 where
+  in_text : List ℕ → Scanner
+  after_less : Scanner
+  in_declaration : Scanner
+  after_question : Scanner
+  in_end_tag : List ℕ → Scanner
+  in_name : List ℕ → Scanner
+  in_tag : List ℕ → List Attribute → Scanner
+  in_key : List ℕ → List Attribute → List ℕ → Scanner
+  after_equals : List ℕ → List Attribute → List ℕ → Scanner
+  in_value : List ℕ → List Attribute → List ℕ → List ℕ → Scanner
+  after_value : List ℕ → List Attribute → Scanner
+  after_slash : List ℕ → List Attribute → Scanner
+  at_fault : Scanner
 
 -- the text before a tag, if there is any
-abbrev pub spoken : List ℕ → List Mark
-spoken [] = []
-spoken (c ∷ t) = says (c ∷ t) ∷ []
+abbrev pub text_marks : List ℕ → List Mark
+text_marks [] = []
+text_marks (c ∷ t) = says (c ∷ t) ∷ []
 
 -- the marks that a byte ends, and where the scanner is then
 pub record Move : Type 0 where
   pub gives : List Mark
-  pub next : Place
+  pub next : Scanner
 
-abbrev pub on : Place → Move
-on p = record { gives = []; next = p }
+-- a byte that ends no mark
+abbrev pub plain_move : Scanner → Move
+plain_move p = record { gives = []; next = p }
 
-abbrev pub gives : Mark → Move
-gives m = record { gives = m ∷ []; next = text [] }
+-- a byte that ends a mark, behind which comes text
+abbrev pub mark_move : Mark → Move
+mark_move m = record { gives = m ∷ []; next = in_text [] }
 
-abbrev pub move : Place → Class → ℕ → Move
-move (text t) less c = record { gives = spoken t; next = opened }
-move (text t) ampersand c = on broken
-move (text t) _ c = on (text (t ++ (c ∷ [])))
-move opened question c = on declaring
-move opened slash c = on (stopping [])
-move opened other c = on (naming (c ∷ []))
-move opened _ c = on broken
-move declaring less c = on broken
-move declaring question c = on asked
-move declaring _ c = on declaring
-move asked greater c = gives declared
-move asked _ c = on broken
-move (stopping n) other c = on (stopping (n ++ (c ∷ [])))
-move (stopping n) greater c = gives (stops n)
-move (stopping n) _ c = on broken
-move (naming n) other c = on (naming (n ++ (c ∷ [])))
-move (naming n) blank c = on (within n [])
-move (naming n) slash c = on (slashed n [])
-move (naming n) greater c = gives (starts n [])
-move (naming n) _ c = on broken
-move (within n xs) blank c = on (within n xs)
-move (within n xs) other c = on (keyed n xs (c ∷ []))
-move (within n xs) slash c = on (slashed n xs)
-move (within n xs) greater c = gives (starts n xs)
-move (within n xs) _ c = on broken
-move (keyed n xs k) other c = on (keyed n xs (k ++ (c ∷ [])))
-move (keyed n xs k) equals c = on (equalled n xs k)
-move (keyed n xs k) _ c = on broken
-move (equalled n xs k) quote c = on (valued n xs k [])
-move (equalled n xs k) _ c = on broken
-move (valued n xs k v) quote c = on (quoted n (xs ++ (record { key = k; value = v } ∷ [])))
-move (valued n xs k v) less c = on broken
-move (valued n xs k v) ampersand c = on broken
-move (valued n xs k v) _ c = on (valued n xs k (v ++ (c ∷ [])))
-move (quoted n xs) blank c = on (within n xs)
-move (quoted n xs) slash c = on (slashed n xs)
-move (quoted n xs) greater c = gives (starts n xs)
-move (quoted n xs) _ c = on broken
-move (slashed n xs) greater c = gives (stands n xs)
-move (slashed n xs) _ c = on broken
-move broken _ c = on broken
+abbrev pub move : Scanner → Class → ℕ → Move
+move (in_text t) less c = record { gives = text_marks t; next = after_less }
+move (in_text t) ampersand c = plain_move at_fault
+move (in_text t) _ c = plain_move (in_text (t ++ (c ∷ [])))
+move after_less question c = plain_move in_declaration
+move after_less slash c = plain_move (in_end_tag [])
+move after_less other c = plain_move (in_name (c ∷ []))
+move after_less _ c = plain_move at_fault
+move in_declaration less c = plain_move at_fault
+move in_declaration question c = plain_move after_question
+move in_declaration _ c = plain_move in_declaration
+move after_question greater c = mark_move declares
+move after_question _ c = plain_move at_fault
+move (in_end_tag n) other c = plain_move (in_end_tag (n ++ (c ∷ [])))
+move (in_end_tag n) greater c = mark_move (stops n)
+move (in_end_tag n) _ c = plain_move at_fault
+move (in_name n) other c = plain_move (in_name (n ++ (c ∷ [])))
+move (in_name n) blank c = plain_move (in_tag n [])
+move (in_name n) slash c = plain_move (after_slash n [])
+move (in_name n) greater c = mark_move (starts n [])
+move (in_name n) _ c = plain_move at_fault
+move (in_tag n xs) blank c = plain_move (in_tag n xs)
+move (in_tag n xs) other c = plain_move (in_key n xs (c ∷ []))
+move (in_tag n xs) slash c = plain_move (after_slash n xs)
+move (in_tag n xs) greater c = mark_move (starts n xs)
+move (in_tag n xs) _ c = plain_move at_fault
+move (in_key n xs k) other c = plain_move (in_key n xs (k ++ (c ∷ [])))
+move (in_key n xs k) equals c = plain_move (after_equals n xs k)
+move (in_key n xs k) _ c = plain_move at_fault
+move (after_equals n xs k) quote c = plain_move (in_value n xs k [])
+move (after_equals n xs k) _ c = plain_move at_fault
+move (in_value n xs k v) quote c =
+    plain_move (after_value n (xs ++ (record { key = k; value = v } ∷ [])))
+move (in_value n xs k v) less c = plain_move at_fault
+move (in_value n xs k v) ampersand c = plain_move at_fault
+move (in_value n xs k v) _ c = plain_move (in_value n xs k (v ++ (c ∷ [])))
+move (after_value n xs) blank c = plain_move (in_tag n xs)
+move (after_value n xs) slash c = plain_move (after_slash n xs)
+move (after_value n xs) greater c = mark_move (starts n xs)
+move (after_value n xs) _ c = plain_move at_fault
+move (after_slash n xs) greater c = mark_move (stands n xs)
+move (after_slash n xs) _ c = plain_move at_fault
+move at_fault _ c = plain_move at_fault
 
 -- a file may end only between tags
-abbrev pub at_end : Place → List Mark
-at_end (text t) = spoken t
+abbrev pub at_end : Scanner → List Mark
+at_end (in_text t) = text_marks t
 at_end _ = fault ∷ []
 
-abbrev pub scan : Place → List ℕ → List Mark
+abbrev pub scan : Scanner → List ℕ → List Mark
 scan p [] = at_end p
 scan p (c ∷ cs) = let m = move p (class c) c in m.gives ++ scan m.next cs
 
 abbrev pub marks : List ℕ → List Mark
-marks bs = scan (text []) bs
+marks bs = scan (in_text []) bs

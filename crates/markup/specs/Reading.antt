@@ -1,4 +1,4 @@
--- What is read of a tree: the elements right in it, their attributes, their texts and the numbers in them.
+-- What is read of a tree: the elements right in it, their attributes, texts and numbers.
 use Rattle.std.specs.Prelude.{ℕ, ◌==◌, List, [], ◌∷◌, ◌++◌, Some, None, Option, codes, bytes_eq, decimal, if◌then◌else◌}
 use Rattle.text.specs.Numeral.{read_on}
 use Rattle.markup.specs.Marks.{Attribute}
@@ -13,13 +13,13 @@ abbrev pub id_of : List Attribute → List ℕ
 id_of xs = value_at (codes "id") xs
 
 -- a number without leading zeros
-abbrev pub number : List ℕ → Option ℕ
-number ds = if bytes_eq ds (decimal (read_on 0 ds)) then Some (read_on 0 ds) else None
+abbrev pub number_in : List ℕ → Option ℕ
+number_in ds = if bytes_eq ds (decimal (read_on 0 ds)) then Some (read_on 0 ds) else None
 
 -- the number after that letter
-abbrev pub numbered : ℕ → List ℕ → Option ℕ
-numbered letter [] = None
-numbered letter (c ∷ ds) = if c == letter then number ds else None
+abbrev pub number_behind : ℕ → List ℕ → Option ℕ
+number_behind letter [] = None
+number_behind letter (c ∷ ds) = if c == letter then number_in ds else None
 
 -- what is read of an element, by its name, its attributes and what is inside it
 abbrev pub Reader : Type 0 → Type 0

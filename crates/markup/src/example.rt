@@ -1,7 +1,7 @@
 // Small texts, taken or refused by hand.
 ghost use Rattle.markup.specs.Samples.{SamplesStand};
 
-/// Takes and refuses nothing itself: what the reader of the promises takes and refuses is computed in its contract.
+/// Carries a theorem: which of some small texts the reader of the promises takes.
 pub fn samples_stand()
     ensures { SamplesStand }
 {}

@@ -1,5 +1,5 @@
-// Elements that open and close, written into lent bytes as far as they fit; and, apart from that, what a reader sees in the
-// bytes of an XML file, found with no knowledge of who wrote them.
+// Elements that open and close, written into lent bytes as far as they fit; and, apart from that,
+// what a reader sees in the bytes of an XML file, found with no knowledge of who wrote them.
 #![tactic(auto)]
 
 pub mod example;

@@ -1,11 +1,13 @@
 ghost use Rattle.std.specs.Prelude.{◌≡◌, ◌+◌, ◌^◌, ◌<◌, true, length, is_ok, if◌then◌else◌};
-ghost use Rattle.markup.specs.Held.{held, with_text_that_fits, set_aside, has_room};
+ghost use Rattle.markup.specs.Held.{output_state, with_text_that_fits, with_less_room, has_room};
 
 use text::bytes::put;
 
-/// Lent bytes, written from the first on; with some of them set aside for the closings of what is open. Nothing is allocated.
+/// Lent bytes, written from the first on, with some of them set aside for the closings of what is
+/// open.
 #[derive(Drop)]
 pub struct Output<'a, C> {
+    /// What is written, and behind it what was there before.
     pub bytes: &'a mut [u8],
     /// How many bytes are written.
     pub at: usize,
@@ -22,8 +24,8 @@ pub struct Cut;
 impl<C> Output<'_, C> {
     /// For text that bytes were set aside for; past the last byte nothing is written.
     pub fn write(&mut self, text: &[u8])
-        ensures after { held self.new ≡ with_text_that_fits (held self.old) text.now }
-        ensures end { (held self.new).at < 2 ^ 64 }
+        ensures after { output_state self.new ≡ with_text_that_fits (output_state self.old) text.now }
+        ensures end { (output_state self.new).at < 2 ^ 64 }
         ensures counts { self.new.counts ≡ self.old.counts }
     {
         self.at = put(self.bytes, self.at, text);
@@ -31,11 +33,12 @@ impl<C> Output<'_, C> {
 
     /// The opening of an element, if it fits with so many bytes of closing, which are set aside.
     pub fn begin(&mut self, opening: &[u8], closing: usize) -> Result<(), Cut>
-        ensures room { is_ok result ≡ has_room (held self.old) opening.now closing }
-        ensures after { held self.new ≡ (if is_ok result
-            then with_text_that_fits (set_aside (held self.old) (length opening.now + closing)) opening.now
-            else held self.old) }
-        ensures end { is_ok result ≡ true → (held self.new).at < 2 ^ 64 }
+        ensures room { is_ok result ≡ has_room (output_state self.old) opening.now closing }
+        ensures after { output_state self.new ≡ (if is_ok result
+            then with_text_that_fits
+            (with_less_room (output_state self.old) (length opening.now + closing)) opening.now
+            else output_state self.old) }
+        ensures end { is_ok result ≡ true → (output_state self.new).at < 2 ^ 64 }
         ensures counts { self.new.counts ≡ self.old.counts }
     {
         let size = opening.len();

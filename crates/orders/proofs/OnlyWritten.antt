@@ -17,9 +17,9 @@ use Rattle.orders.specs.declared.start.PaceKind.{PaceKind}
 use Rattle.orders.specs.declared.start.PaceKind.TheVariants.{Halving, TwoPhase}
 use Rattle.orders.specs.declared.start.Start.{Start}
 use Rattle.orders.specs.Kinds.{order_kind, order_number, pace_kind, pace_number}
-use Rattle.orders.specs.Reading.{whole, number_at, fault, order_at, order_of, start_at, start_of}
+use Rattle.orders.specs.Reading.{is_whole, number_at, fault, order_at, order_of, start_at, start_of}
 use Rattle.orders.specs.Writing.{number_bytes, order_bytes, start_bytes, bytes_of_file}
-use Rattle.orders.specs.Loading.{Loaded, kept, taken, orders_from, started, LoadedFilesAreWritten}
+use Rattle.orders.specs.Loading.{LoadOutcome, append_outcome, record_outcome, orders_from, start_outcome, LoadedFilesAreWritten}
 
 differ : {A : Type 0} → ◌≡◌ {A = ℕ} 0 1 → A
 differ e = absurd (omega (arith, e))
@@ -80,7 +80,7 @@ both true true h = (refl, refl)
 both true false h = differ cc
 both false b h = differ cc
 
-has : (mark : List ℕ) (size : ℕ) (bs : List ℕ) (at : ℕ) → whole mark size bs at ≡ true → Has mark size bs at
+has : (mark : List ℕ) (size : ℕ) (bs : List ℕ) (at : ℕ) → is_whole mark size bs at ≡ true → Has mark size bs at
 has mark size bs at h =
     let p = both _ _ h in
     let q = both _ _ p.1 in
@@ -127,7 +127,7 @@ module _ (bs : List ℕ) (small : All (λ b. b < 256) bs) where
     -- it has the bytes that it is written as
     order_back : (o : Order) → order_at bs at ≡ Ok (Some o) → (at + 9 ≤ length bs) × (order_bytes o ≡ gets 9 at bs)
     order_back o h =
-        let m = order_seen (eqb at (length bs)) (whole (0x48 ∷ 0x4F ∷ []) 9 bs at) (order_kind (get_or bs (at + 2) 0)) o h in
+        let m = order_seen (eqb at (length bs)) (is_whole (0x48 ∷ 0x4F ∷ []) 9 bs at) (order_kind (get_or bs (at + 2) 0)) o h in
         let w = has (0x48 ∷ 0x4F ∷ []) 9 bs at m.marked in
         let e2 : at + 2 ≡ at + 1 + 1 = omega arith in
         let e3 : at + 3 ≡ at + 1 + 1 + 1 = omega arith in
@@ -178,7 +178,7 @@ module _ (bs : List ℕ) (small : All (λ b. b < 256) bs) where
 
   start_back : (s : Start) → start_at bs 0 ≡ Ok s → (14 ≤ length bs) × (start_bytes s ≡ gets 14 0 bs)
   start_back s h =
-      let m = start_seen (whole (0x48 ∷ 0x47 ∷ []) 14 bs 0) (group_kind (get_or bs 2 0)) (pace_kind (get_or bs 12 0)) s h in
+      let m = start_seen (is_whole (0x48 ∷ 0x47 ∷ []) 14 bs 0) (group_kind (get_or bs 2 0)) (pace_kind (get_or bs 12 0)) s h in
       let w = has (0x48 ∷ 0x47 ∷ []) 14 bs 0 m.marked in
       let t = ap number_bytes m.tmin ∙ digits_at 4 (omega (arith, w.within)) in
       let u = ap number_bytes m.tmax ∙ digits_at 8 (omega (arith, w.within)) in
@@ -187,16 +187,16 @@ module _ (bs : List ℕ) (small : All (λ b. b < 256) bs) where
       (w.within, λ j. sym w.first j ∷ sym w.second j ∷ k j ∷ m.parties j ∷ (t j ++ (u j ++ (p j ∷ m.cap j ∷ []))))
 
   -- what reading on from a place with the start s came to, where it gave the start s'
-  record Read (s s' : Start) (at : ℕ) (xs : List Order) (out : Loaded) : Type 0 where
+  record Read (s s' : Start) (at : ℕ) (xs : List Order) (out : LoadOutcome) : Type 0 where
     pub start : s' ≡ s
     pub orders : List Order
     pub grown : out.items ≡ xs ++ orders
     pub same : drop at bs ≡ flat_map order_bytes orders
 
-  module _ (s s' : Start) (at : ℕ) (xs ys : List Order) (more : ℕ → List Order → List Order → Loaded)
+  module _ (s s' : Start) (at : ℕ) (xs ys : List Order) (more : ℕ → List Order → List Order → LoadOutcome)
       (later : (zs ws : List Order) → at + 9 ≤ length bs → (more (at + 9) zs ws).answer ≡ Ok s' → Read s s' (at + 9) zs (more (at + 9) zs ws)) where
     appended : (o : Order) → order_at bs at ≡ Ok (Some o) → (q : Result (Unit {0}) Refusal) →
-        (kept at xs ys (more (at + 9) (xs ++ o ∷ []) (drop 1 ys)) q).answer ≡ Ok s' → Read s s' at xs (kept at xs ys (more (at + 9) (xs ++ o ∷ []) (drop 1 ys)) q)
+        (append_outcome at xs ys (more (at + 9) (xs ++ o ∷ []) (drop 1 ys)) q).answer ≡ Ok s' → Read s s' at xs (append_outcome at xs ys (more (at + 9) (xs ++ o ∷ []) (drop 1 ys)) q)
     appended o e (Err f) h = differ cc
     appended o e (Ok u) h =
         let b = order_back at o e in
@@ -208,7 +208,7 @@ module _ (bs : List ℕ) (small : All (λ b. b < 256) bs) where
           same = split 9 at bs b.0 ∙ (λ j. sym b.1 j ++ r.same j);
         }
 
-    met : (r : Result (Option Order) ReadFault) → order_at bs at ≡ r → (taken more s at xs ys r).answer ≡ Ok s' → Read s s' at xs (taken more s at xs ys r)
+    met : (r : Result (Option Order) ReadFault) → order_at bs at ≡ r → (record_outcome more s at xs ys r).answer ≡ Ok s' → Read s s' at xs (record_outcome more s at xs ys r)
     met (Err f) e h = differ cc
     met (Ok None) e h =
         let end : at ≡ length bs = eqb-true _ _ (no_order at _ _ _ e) in
@@ -223,8 +223,8 @@ module _ (bs : List ℕ) (small : All (λ b. b < 256) bs) where
       met s s' at xs ys (orders_from n s bs) (λ zs ws l a. from s s' n (at + 9) zs ws (omega arith) l a) _ refl h
 
   -- by what the start record reads as
-  begun : (s' : Start) (xs ys : List Order) (r : Result Start ReadFault) → start_at bs 0 ≡ r → (started bs xs ys r).answer ≡ Ok s' →
-      (os : List Order) × ((started bs xs ys r).items ≡ xs ++ os) × (bs ≡ bytes_of_file s' os)
+  begun : (s' : Start) (xs ys : List Order) (r : Result Start ReadFault) → start_at bs 0 ≡ r → (start_outcome bs xs ys r).answer ≡ Ok s' →
+      (os : List Order) × ((start_outcome bs xs ys r).items ≡ xs ++ os) × (bs ≡ bytes_of_file s' os)
   begun s' xs ys (Err f) e h = differ cc
   begun s' xs ys (Ok s) e h =
       let b = start_back s e in

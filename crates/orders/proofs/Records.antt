@@ -13,7 +13,7 @@ use Rattle.orders.specs.declared.fault.ReadCause.TheVariants.{NotWhole, Unknown}
 use Rattle.orders.specs.declared.order.OrderKind.{OrderKind}
 use Rattle.orders.specs.declared.start.PaceKind.{PaceKind}
 use Rattle.orders.specs.Kinds.{order_kind, pace_kind}
-use Rattle.orders.specs.Reading.{whole, number_at, fault, order_at, start_at}
+use Rattle.orders.specs.Reading.{is_whole, number_at, fault, order_at, start_at}
 
 -- comparing the mark is comparing two bytes
 marked : (m r : List ℕ) → length m ≡ 2 → 2 ≤ length r → starts_with eqb r m ≡ (eqb (get_or r 0 0) (get_or m 0 0) && eqb (get_or r 1 0) (get_or m 1 0))
@@ -25,10 +25,10 @@ marked (a ∷ b ∷ []) (x ∷ []) h g = absurd (omega arith)
 marked (a ∷ b ∷ []) (x ∷ y ∷ r) h g = grind (arith, nat_tests)
 
 module _ (m bs : List ℕ) (n at : ℕ) (two : length m ≡ 2) (some : 2 ≤ n) (within : at ≤ length bs) where
-  pub too_short : length bs < n + at → whole m n bs at ≡ false
+  pub too_short : length bs < n + at → is_whole m n bs at ≡ false
   too_short h = grind (arith, nat_tests)
 
-  pub as_marked : n + at ≤ length bs → (r : List ℕ) → r ≡ take n (drop at bs) → whole m n bs at ≡ starts_with eqb r m
+  pub as_marked : n + at ≤ length bs → (r : List ℕ) → r ≡ take n (drop at bs) → is_whole m n bs at ≡ starts_with eqb r m
   as_marked h r e =
       let front : length r ≡ n = ap length e ∙ length-take-le n (drop at bs) (simp length-drop (omega arith)) in
       let t : leb (at + n) (length bs) ≡ true = le-leb (at + n) (length bs) (omega arith) in
@@ -66,7 +66,7 @@ number_seen bs r at n i j e h f =
 
 module _ (bs r : List ℕ) (at : ℕ) where
   pub order_read : (k : OrderKind) (t : ℕ) (u : UnknownKind) → (at ≡ length bs → ⊥) →
-      ◌≡◌ {A = Result (List ℕ) ReadCause} (Ok r) (cond (whole (0x48 ∷ 0x4F ∷ []) 9 bs at) (Ok (take 9 (drop at bs))) (Err NotWhole)) → Ok k ≡ ok_or (order_kind (get_or r 2 0)) u → t ≡ number_at r 5 →
+      ◌≡◌ {A = Result (List ℕ) ReadCause} (Ok r) (cond (is_whole (0x48 ∷ 0x4F ∷ []) 9 bs at) (Ok (take 9 (drop at bs))) (Err NotWhole)) → Ok k ≡ ok_or (order_kind (get_or r 2 0)) u → t ≡ number_at r 5 →
       Ok (Some record { kind = k; party = get_or r 3 0; leg = get_or r 4 0; tick = t }) ≡ order_at bs at
   order_read k t u more e f g =
       let h = taken _ _ _ e in
@@ -80,7 +80,7 @@ module _ (bs r : List ℕ) (at : ℕ) where
       simp (on, w, s2, s3, s4, s5, q, g)
 
   module _ (k : GroupKind) (u v : UnknownKind)
-      (e : ◌≡◌ {A = Result (List ℕ) ReadCause} (Ok r) (cond (whole (0x48 ∷ 0x47 ∷ []) 14 bs at) (Ok (take 14 (drop at bs))) (Err NotWhole))) (f : Ok k ≡ ok_or (group_kind (get_or r 2 0)) u) where
+      (e : ◌≡◌ {A = Result (List ℕ) ReadCause} (Ok r) (cond (is_whole (0x48 ∷ 0x47 ∷ []) 14 bs at) (Ok (take 14 (drop at bs))) (Err NotWhole))) (f : Ok k ≡ ok_or (group_kind (get_or r 2 0)) u) where
     pub start_read : (p : PaceKind) (tmin tmax : ℕ) → Ok p ≡ ok_or (pace_kind (get_or r 12 0)) v → tmin ≡ number_at r 4 → tmax ≡ number_at r 8 →
         Ok record { kind = k; parties = get_or r 3 0; tmin = tmin; tmax = tmax; pace = p; cap = get_or r 13 0 } ≡ start_at bs at
     start_read p tmin tmax g a b =

@@ -5,8 +5,9 @@ use Rattle.orders.specs.declared.order.Order.{Order}
 use Rattle.orders.specs.declared.order.OrderKind.TheVariants.{Deliver, Lose, Crash, Join, Leave, Wait}
 use Rattle.orders.specs.declared.start.PaceKind.TheVariants.{Halving, TwoPhase}
 use Rattle.orders.specs.declared.start.Start.{Start}
-use Rattle.orders.specs.Loading.{loaded, ended}
+use Rattle.orders.specs.Loading.{load_outcome, end_outcome}
 
+-- a file, and what it says
 pub record Row : Type 0 where
   pub file : List ℕ
   pub start : Start
@@ -23,8 +24,17 @@ bare = record {
 -- an expanding one, whose numbers have four bytes that differ
 abbrev pub long_numbers : Row
 long_numbers = record {
-  file = 0x48 ∷ 0x47 ∷ 2 ∷ 32 ∷ 1 ∷ 2 ∷ 3 ∷ 4 ∷ 5 ∷ 6 ∷ 7 ∷ 8 ∷ 2 ∷ 9 ∷ 0x48 ∷ 0x4F ∷ 6 ∷ 0 ∷ 0 ∷ 10 ∷ 11 ∷ 12 ∷ 13 ∷ [];
-  start = record { kind = Expanding; parties = 32; tmin = 16909060; tmax = 84281096; pace = TwoPhase; cap = 9 };
+  file =
+      (0x48 ∷ 0x47 ∷ 2 ∷ 32 ∷ 1 ∷ 2 ∷ 3 ∷ 4 ∷ 5 ∷ 6 ∷ 7 ∷ 8 ∷ 2 ∷ 9 ∷ [])
+      ++ (0x48 ∷ 0x4F ∷ 6 ∷ 0 ∷ 0 ∷ 10 ∷ 11 ∷ 12 ∷ 13 ∷ []);
+  start = record {
+    kind = Expanding;
+    parties = 32;
+    tmin = 16909060;
+    tmax = 84281096;
+    pace = TwoPhase;
+    cap = 9;
+  };
   orders = record { kind = Wait; party = 0; leg = 0; tick = 168496141 } ∷ [];
 }
 
@@ -54,7 +64,10 @@ each_kind = record {
 abbrev pub Stands : Row → Type 0
 Stands r =
     (slots : List Order) → length r.orders ≤ length slots
-    → loaded r.file [] slots ≡ ended r.orders (drop (length r.orders) slots) (Ok r.start)
+    → load_outcome r.file [] slots
+    ≡ end_outcome r.orders (drop (length r.orders) slots) (Ok r.start)
 
-abbrev pub ExamplesLoad : Type 0
-ExamplesLoad = Stands bare × Stands long_numbers × Stands each_kind
+pub record ExamplesLoad : Type 0 where
+  pub without_orders : Stands bare
+  pub of_long_numbers : Stands long_numbers
+  pub of_each_kind : Stands each_kind

@@ -1,5 +1,5 @@
 -- The number of each order and pace, and what each number stands for.
-use Rattle.std.specs.Prelude.{ℕ, cond, Some, None, Option, ◌==◌}
+use Rattle.std.specs.Prelude.{ℕ, if◌then◌else◌, Some, None, Option, ◌==◌}
 use Rattle.orders.specs.declared.order.OrderKind.{OrderKind}
 use Rattle.orders.specs.declared.order.OrderKind.TheVariants.{Deliver, Lose, Crash, Join, Leave, Wait}
 use Rattle.orders.specs.declared.start.PaceKind.{PaceKind}
@@ -10,7 +10,9 @@ pace_number Halving = 1
 pace_number TwoPhase = 2
 
 abbrev pub pace_kind : ℕ → Option PaceKind
-pace_kind b = cond (b == 1) (Some Halving) (cond (b == 2) (Some TwoPhase) None)
+pace_kind b =
+    if b == 1 then Some Halving else
+    (if b == 2 then Some TwoPhase else None)
 
 abbrev pub order_number : OrderKind → ℕ
 order_number Deliver = 1
@@ -22,5 +24,9 @@ order_number Wait = 6
 
 abbrev pub order_kind : ℕ → Option OrderKind
 order_kind b =
-    cond (b == 1) (Some Deliver) (cond (b == 2) (Some Lose) (cond (b == 3) (Some Crash)
-    (cond (b == 4) (Some Join) (cond (b == 5) (Some Leave) (cond (b == 6) (Some Wait) None)))))
+    if b == 1 then Some Deliver else
+    (if b == 2 then Some Lose else
+    (if b == 3 then Some Crash else
+    (if b == 4 then Some Join else
+    (if b == 5 then Some Leave else
+    (if b == 6 then Some Wait else None)))))

@@ -6,13 +6,14 @@ ghost use Rattle.orders.specs.Faults.{fault_number};
 use protocol::kind::UnknownKind;
 use slots::refusal::Refusal;
 
+/// Why a record of the file is not taken.
 #[derive(Clone, Copy, Debug, PartialEq, Eq)]
 pub enum ReadCause {
-    // bytes are missing, or they do not begin with the mark
+    /// Bytes are missing, or they do not begin with the mark.
     NotWhole,
-    // the group kind, the pace or the order kind is no known value
+    /// The group kind, the pace or the order kind is no known value.
     Unknown,
-    // the list refused the order
+    /// The list refused the order.
     Append(Refusal),
 }
 
@@ -32,15 +33,16 @@ impl From<Refusal> for ReadCause {
     }
 }
 
-// The first record that is not taken: where it begins, and why.
+/// The first record that is not taken.
 #[derive(Clone, Copy, Debug, PartialEq, Eq)]
 pub struct ReadFault {
+    /// Where the record begins, in bytes from the start of the file.
     pub byte: usize,
     pub cause: ReadCause,
 }
 
 impl ReadFault {
-    // The number of the question that was answered no. Not a `From`, which would not say so.
+    /// The number of the question that was answered no.
     pub fn number(self) -> u8
         ensures { result ≡ fault_number self }
     {

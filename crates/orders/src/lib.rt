@@ -1,4 +1,4 @@
-// The order file: a start record and then one record for each order, read from and written as bytes.
+// The order file: a start record and then one for each order, read from and written as bytes.
 #![tactic(auto)]
 
 pub mod fault;

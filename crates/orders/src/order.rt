@@ -11,16 +11,23 @@ use slots::timed::Timed;
 // The two bytes before each order.
 pub(crate) const ORDER_MARK: [u8; 2] = [0x48, 0x4F];
 
-// How many bytes an order has, with its mark.
+/// How many bytes an order has in the file, with its mark.
 pub const ORDER_SIZE: usize = 9;
 
+/// What is to be done with a beat, with a party, or until a tick.
 #[derive(Clone, Copy, Debug, Default, PartialEq, Eq)]
 pub enum OrderKind {
+    /// The beat on a party's leg arrives.
     Deliver = 1,
+    /// The beat on a party's leg is lost.
     Lose = 2,
+    /// The root, as party 0, or a party crashes.
     Crash = 3,
+    /// A party asks to be enrolled.
     Join = 4,
+    /// A party that is in begins to leave.
     Leave = 5,
+    /// Time goes on until the order's tick.
     #[default]
     Wait = 6,
 }
@@ -51,11 +58,13 @@ impl From<OrderKind> for u8 {
     }
 }
 
-// An order to be carried out at its tick. `party` and `leg` mean nothing to a kind that does not use them.
+/// An order to be carried out at its tick.
 #[derive(Clone, Copy, Debug, Default, PartialEq, Eq)]
 pub struct Order {
     pub kind: OrderKind,
+    /// Which party, the root being 0; nothing to `Wait`.
     pub party: u8,
+    /// Which of the party's legs, 1 to 3, for `Deliver` and `Lose`; nothing to the others.
     pub leg: u8,
     pub tick: u32,
 }
@@ -69,10 +78,11 @@ impl Timed for Order {
 }
 
 impl Order {
-    // The order as a record of the file.
+    /// The order as a record of the file.
     pub fn to_bytes(self) -> [u8; ORDER_SIZE]
         ensures written { result ≡ order_bytes self }
-        ensures reads_back { (before after : List ℕ) → order_at (before ++ result ++ after) (length before) ≡ Ok (Some self) }
+        ensures reads_back { (before after : List ℕ)
+            → order_at (before ++ result ++ after) (length before) ≡ Ok (Some self) }
     {
         let [a, b, c, d] = self.tick.to_be_bytes();
         [

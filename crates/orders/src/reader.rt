@@ -1,6 +1,6 @@
 // Walks the bytes of a file, one record at a time.
-ghost use Rattle.std.specs.Prelude.{◌≡◌, ◌≤◌, cond, length, take, drop};
-ghost use Rattle.orders.specs.Reading.{whole, start_at, after_start, order_at, after_order, at_place};
+ghost use Rattle.std.specs.Prelude.{◌≡◌, ◌≤◌, if◌then◌else◌, length, take, drop};
+ghost use Rattle.orders.specs.Reading.{is_whole, start_at, place_after_start, order_at, place_after_order, with_place};
 
 use super::fault::{ReadCause, ReadFault};
 use super::order::{ORDER_MARK, ORDER_SIZE, Order};
@@ -31,7 +31,7 @@ impl<'a> Reader<'a> {
     // The start record at the reader's place; a fault leaves the reader there.
     pub(crate) fn start(&mut self) -> Result<Start, ReadFault>
         ensures answer { result ≡ start_at self.old.bytes.now self.old.at }
-        ensures place { self.new.at ≡ after_start result self.old.at }
+        ensures place { self.new.at ≡ place_after_start result self.old.at }
         ensures bytes { self.new.bytes ≡ self.old.bytes }
     {
         let byte = self.at;
@@ -45,7 +45,7 @@ impl<'a> Reader<'a> {
     // The order at the reader's place, or none at the end; a fault leaves the reader there.
     pub(crate) fn order(&mut self) -> Result<Option<Order>, ReadFault>
         ensures answer { result ≡ order_at self.old.bytes.now self.old.at }
-        ensures place { self.new.at ≡ after_order result self.old.at }
+        ensures place { self.new.at ≡ place_after_order result self.old.at }
         ensures bytes { self.new.bytes ≡ self.old.bytes }
     {
         let byte = self.at;
@@ -60,7 +60,7 @@ impl<'a> Reader<'a> {
 
     // What stands at the reader's place, without going on.
     fn start_here(&self) -> Result<Start, ReadCause>
-        ensures { at_place self.now.at result ≡ start_at self.now.bytes.now self.now.at }
+        ensures { with_place self.now.at result ≡ start_at self.now.bytes.now self.now.at }
     {
         let record: [u8; START_SIZE] = self.record(START_MARK)?;
         let [_, _, kind, parties, a, b, c, d, e, f, g, h, pace, cap] = record;
@@ -75,7 +75,7 @@ impl<'a> Reader<'a> {
     }
 
     fn order_here(&self) -> Result<Option<Order>, ReadCause>
-        ensures { at_place self.now.at result ≡ order_at self.now.bytes.now self.now.at }
+        ensures { with_place self.now.at result ≡ order_at self.now.bytes.now self.now.at }
     {
         if self.at == self.bytes.len() {
             return Ok(None);
@@ -93,7 +93,8 @@ impl<'a> Reader<'a> {
     // The next `N` bytes, of which the first two have to be the mark.
     fn record<const N: usize>(&self, mark: [u8; 2]) -> Result<[u8; N], ReadCause>
         requires { 2 ≤ N }
-        ensures { result ≡ cond (whole mark N self.now.bytes.now self.now.at) (Ok (take N (drop self.now.at self.now.bytes.now))) (Err ReadCause.NotWhole) }
+        ensures { result ≡ (if is_whole mark N self.now.bytes.now self.now.at
+            then Ok (take N (drop self.now.at self.now.bytes.now)) else Err ReadCause.NotWhole) }
     {
         match self.bytes[self.at..].first_chunk() {
             Some(record) if record.starts_with(&mark) => Ok(*record),

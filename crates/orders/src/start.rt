@@ -10,9 +10,10 @@ use protocol::kind::{GroupKind, UnknownKind};
 // The two bytes before the start record.
 pub(crate) const START_MARK: [u8; 2] = [0x48, 0x47];
 
-// How many bytes a start record has, with its mark.
+/// How many bytes a start record has in the file, with its mark.
 pub const START_SIZE: usize = 14;
 
+/// Which pace a file asks for.
 #[derive(Clone, Copy, Debug, PartialEq, Eq)]
 pub enum PaceKind {
     Halving = 1,
@@ -41,22 +42,27 @@ impl From<PaceKind> for u8 {
     }
 }
 
-// What a file asks for; whether such limits, cap and plan can be is asked later.
+/// What a file asks for. Whether there can be such limits, cap and plan is not asked in reading.
 #[derive(Clone, Copy, Debug, PartialEq, Eq)]
 pub struct Start {
     pub kind: GroupKind,
+    /// How many parties there are beside the root.
     pub parties: u8,
+    /// The shortest wait, in ticks.
     pub tmin: u32,
+    /// The longest wait, in ticks.
     pub tmax: u32,
     pub pace: PaceKind,
+    /// How many of the pace's waits count at most.
     pub cap: u8,
 }
 
 impl Start {
-    // The start as a record of the file.
+    /// The start as a record of the file.
     pub fn to_bytes(self) -> [u8; START_SIZE]
         ensures written { result ≡ start_bytes self }
-        ensures reads_back { (before after : List ℕ) → start_at (before ++ result ++ after) (length before) ≡ Ok self }
+        ensures reads_back { (before after : List ℕ)
+            → start_at (before ++ result ++ after) (length before) ≡ Ok self }
     {
         let [a, b, c, d] = self.tmin.to_be_bytes();
         let [e, f, g, h] = self.tmax.to_be_bytes();

@@ -7,7 +7,7 @@ use Rattle.std.specs.List.{slice_get}
 use Rattle.std.proofs.lemmas.Bool.{le-leb, lt-leb, cases_lt}
 use Rattle.std.proofs.lemmas.Option.{slice_get-get_or}
 use Rattle.pace.specs.declared.limits.Limits.{Limits}
-use Rattle.pace.specs.Falling.{falling}
+use Rattle.pace.specs.Falling.{falling_waits}
 use Rattle.pace.specs.Halving.{halving, Largest, LengthsApart}
 
 -- the wait at place m is the last that is at least tmin
@@ -44,7 +44,7 @@ shape_more ws w m s = record { long = ap suc s.long; at = at }
     at zero h = sym (div-one w)
     at (suc k) h = s.at k (omega arith) ∙ half_first w k
 
-shape : (most tmin w m : ℕ) → m < most → Last tmin w m → Shape (falling (λ x. x / 2) true most tmin w) w m
+shape : (most tmin w m : ℕ) → m < most → Last tmin w m → Shape (falling_waits (λ x. x / 2) true most tmin w) w m
 shape zero tmin w m b last = absurd (omega arith)
 shape (suc most) tmin w zero b last = rw (lt-leb tmin (w / 2) last.beyond) (shape_one w)
 shape (suc most) tmin w (suc m) b last =
@@ -52,7 +52,7 @@ shape (suc most) tmin w (suc m) b last =
     let h' : w / 2 / 2 ^ suc m ≡ w / 2 ^ suc (suc m) = half_first w (suc m) in
     let t : nat_le tmin (w / 2) ≡ true = le-leb tmin (w / 2) (omega (arith, last.reached, shr_le (w / 2) m)) in
     let ih = shape most tmin (w / 2) m (omega arith) (record { reached = omega (arith, last.reached); beyond = omega (arith, last.beyond) }) in
-    rw t (shape_more (falling (λ x. x / 2) true most tmin (w / 2)) w m ih)
+    rw t (shape_more (falling_waits (λ x. x / 2) true most tmin (w / 2)) w m ih)
 
 -- ---- the last place, by the limits' lengths in bits
 
@@ -140,12 +140,12 @@ module _ (l : Limits) where
       let t = shape_of found.0 found.1.last in
       slice_get-get_or (halving l.tmin l.tmax) k 0 h ∙ ap Some (t.at k (omega (arith, t.long)))
 
--- the last place is the largest k with tmin * 2 ^ k at most tmax
+-- at the last place tmin is doubled as often as tmax has room for
 largest : (tmin tmax m : ℕ) → Last tmin tmax m → Largest tmin tmax m
-largest tmin tmax m last = (
-  (le-div_iff_mul-le (pow_pos m)).0 last.reached,
-  λ j le. let r : tmin ≤ tmax / 2 ^ j = (le-div_iff_mul-le (pow_pos j)).1 le in ⊎_elim (λ lt. absurd (omega (arith, r, last.beyond, shr_anti tmax (suc m) j lt))) (λ x. x) (cases_lt m j),
-)
+largest tmin tmax m last = record {
+  fits = (le-div_iff_mul-le (pow_pos m)).0 last.reached;
+  most = λ j le. let r : tmin ≤ tmax / 2 ^ j = (le-div_iff_mul-le (pow_pos j)).1 le in ⊎_elim (λ lt. absurd (omega (arith, r, last.beyond, shr_anti tmax (suc m) j lt))) (λ x. x) (cases_lt m j);
+}
 
 -- what is told of a number of waits
 pub record Told (l : Limits) (r : ℕ) : Type 0 where

@@ -3,7 +3,8 @@ use Rattle.std.specs.Prelude.{ℕ, zero, suc, Bool, true, false, List, [], ◌�
 
 -- w, then `next` of the wait before it, while that is at least tmin; at most `most` waits. The
 -- Bool says whether w is such a wait.
-abbrev pub falling : (ℕ → ℕ) → Bool → ℕ → ℕ → ℕ → List ℕ
-falling next false most tmin w = []
-falling next true zero tmin w = []
-falling next true (suc most) tmin w = w ∷ falling next (nat_le tmin (next w)) most tmin (next w)
+abbrev pub falling_waits : (ℕ → ℕ) → Bool → ℕ → ℕ → ℕ → List ℕ
+falling_waits next false most tmin w = []
+falling_waits next true zero tmin w = []
+falling_waits next true (suc most) tmin w =
+    w ∷ falling_waits next (nat_le tmin (next w)) most tmin (next w)

@@ -20,9 +20,9 @@ pub record Lawful (m : Meaning) : Type 0 where
   pub roof : (k : ℕ) → k < length m.waits → slice_index m.waits k ≤ m.tmax
 
 -- these waits between these limits
-abbrev pub between : Limits → List ℕ → Meaning
-between l ws = record { tmin = l.tmin; tmax = l.tmax; waits = ws }
+abbrev pub meaning_between : Limits → List ℕ → Meaning
+meaning_between l ws = record { tmin = l.tmin; tmax = l.tmax; waits = ws }
 
--- is the number of waits 1 to 64?
-abbrev pub countable : ℕ → Bool
-countable m = nat_le 1 m && nat_le m 64
+-- whether a pace may have so many waits
+abbrev pub is_wait_count : ℕ → Bool
+is_wait_count m = nat_le 1 m && nat_le m 64

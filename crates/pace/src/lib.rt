@@ -9,6 +9,5 @@ pub mod meaning;
 pub mod refusal;
 pub mod total;
 pub mod two_phase;
-mod wait_list;
 
 pub use self::meaning::Pace;

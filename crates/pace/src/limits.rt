@@ -5,6 +5,7 @@ ghost use Rattle.pace.specs.Limits.{limits_no};
 
 use crate::refusal::Refusal;
 
+/// The shortest and the longest wait, in ticks: 1 <= tmin <= tmax <= 1,000,000.
 #[derive(Clone, Copy, Debug, PartialEq, Eq)]
 pub struct Limits {
     tmin: u32,
@@ -15,9 +16,10 @@ pub struct Limits {
 }
 
 impl Limits {
-    // Refused unless 1 <= tmin <= tmax <= 1,000,000. Both fields stand in one clause, since they are what `Answered` says of a granted pair.
+    /// A pair of limits. `BadLimits` where it breaks its bounds.
     pub fn new(tmin: u32, tmax: u32) -> Result<Limits, Refusal>
-        ensures { Answered (limits_no tmin tmax) result (λ l. (l.tmin ≡ tmin) × (l.tmax ≡ tmax)) NothingToKeep }
+        ensures { Answered (limits_no tmin tmax) result
+            (λ limits. (limits.tmin ≡ tmin) × (limits.tmax ≡ tmax)) NothingToKeep }
     {
         if tmin >= 1 && tmin <= tmax && tmax <= 1_000_000 {
             Ok(Limits { tmin, tmax })
@@ -26,12 +28,14 @@ impl Limits {
         }
     }
 
+    /// The shortest wait, in ticks.
     pub fn tmin(&self) -> u32
         ensures { result ≡ self.now.tmin }
     {
         self.tmin
     }
 
+    /// The longest wait, in ticks.
     pub fn tmax(&self) -> u32
         ensures { result ≡ self.now.tmax }
     {

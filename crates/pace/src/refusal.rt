@@ -1,23 +1,24 @@
-// Why a call refuses: the question that was answered no.
+// Why limits, a cap or waits are refused.
 ghost use Rattle.std.specs.Prelude.{◌≡◌};
-ghost use Rattle.pace.specs.Answers.{number};
+ghost use Rattle.pace.specs.Answers.{pace_refusal_number};
 
+/// The question on limits, a cap or waits that is answered no.
 #[derive(Clone, Copy, Debug, PartialEq, Eq)]
 pub enum Refusal {
-    // the pair of limits breaks its bounds
+    /// The pair of limits breaks its bounds.
     BadLimits = 1,
-    // the number of waits is not 1 to 64
+    /// The number of waits, or the cap, is not 1 to 64.
     BadCount = 2,
-    // the first wait is not tmax
+    /// The first wait is not tmax.
     BadFirst = 3,
-    // a wait lies outside the limits
+    /// A wait lies outside the limits.
     BadWait = 4,
 }
 
 impl Refusal {
-    // Not a `From`: a byte alone would not say that it is the number of a question.
+    /// The number of the question, 1 to 4.
     pub fn number(self) -> u8
-        ensures { result ≡ number self }
+        ensures { result ≡ pace_refusal_number self }
     {
         self as u8
     }

@@ -3,6 +3,7 @@ ghost use Rattle.std.specs.Prelude.{◌≡◌, ◌≤◌, sum};
 
 use crate::meaning::Pace;
 
+/// The waits of a pace together, in ticks.
 pub fn total<P: Pace>(p: &P) -> u32
     ensures sum { result ≡ sum (P.means p.now).waits }
     ensures small { result ≤ 64000000 }

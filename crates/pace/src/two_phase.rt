@@ -1,21 +1,23 @@
-// tmax once, then tmin 63 times.
+// The pace in two phases.
 ghost use Rattle.std.specs.Prelude.{◌≡◌};
-ghost use Rattle.pace.specs.Meaning.{between};
+ghost use Rattle.pace.specs.Meaning.{meaning_between};
 ghost use Rattle.pace.specs.TwoPhase.{phases};
 ghost use Rattle.pace.specs.laws.TwoPhase.{two_phase_lawful};
 
 use crate::limits::Limits;
 use crate::meaning::Pace;
 
-// how many waits there are
+// How many waits there are.
 const ROUNDS: u32 = 64;
 
+/// Waits tmax once, and then tmin 63 times.
 #[derive(Clone, Copy, Debug, PartialEq, Eq)]
 pub struct TwoPhase {
     limits: Limits,
 }
 
 impl TwoPhase {
+    /// The pace in two phases between these limits.
     pub fn new(limits: Limits) -> TwoPhase
         ensures { result.limits ≡ limits }
     {
@@ -24,7 +26,7 @@ impl TwoPhase {
 }
 
 impl Pace for TwoPhase {
-    ghost means = { λ s. between s.limits (phases 63 s.limits.tmin s.limits.tmax) };
+    ghost means = { λ s. meaning_between s.limits (phases 63 s.limits.tmin s.limits.tmax) };
 
     ghost lawful = { λ s. two_phase_lawful s.limits };
 

@@ -1,17 +1,21 @@
 -- A file that is played, from the group's opening to the output.
-use Rattle.std.proofs.Common.{◌≡◌, ℕ, zero, suc, ◌-◌, ◌≤◌, Bool, true, false, cond, leb, List, [], ◌++◌, length, take, drop, IfOk, Ok, Err, Result, sym, refl, ap, ◌∙◌, subst, arith, length-append}
+use Rattle.std.proofs.Common.{◌≡◌, ℕ, zero, suc, ◌-◌, ◌≤◌, Bool, true, false, cond, leb, List, [], ◌++◌, length, take, drop, IfOk, Ok, Err, Result, sym, refl, ap, ◌∙◌, ap₂, subst, arith, length-append}
 use Rattle.pace.specs.Meaning.{Meaning, Lawful}
 use Rattle.slots.specs.declared.SlotList.{SlotList}
-use Rattle.slots.specs.Slots.{items, spare, capacity, Extends}
+use Rattle.slots.specs.Slots.{items, spare}
 use Rattle.slots.proofs.Growing.{items_length, whole, fresh}
 use Rattle.protocol.specs.declared.happening.Happening.{Happening}
 use Rattle.protocol.specs.declared.table.Table.{Table}
 use Rattle.protocol.specs.declared.plan.Plan.{Plan}
-use Rattle.protocol.specs.Group.{Play, opened}
-use Rattle.protocol.specs.Runs.{is_own_log}
+use Rattle.protocol.specs.State.{State, opening, new_table}
+use Rattle.protocol.specs.Questions.{is_own_log}
 use Rattle.protocol.specs.Promise.{KeepsTheRules}
 use Rattle.protocol.proofs.Rehearsal.{keeps}
-use Rattle.protocol.specs.Views.{play}
+use Rattle.pace.specs.declared.meaning.Pace.{Ghosts}
+use Rattle.protocol.specs.Rules.{Rules}
+use Rattle.group.specs.declared.group.Group.{Group}
+use Rattle.group.specs.Does.{rules, state}
+use Rattle.player.specs.declared.play.PlayStop.{PlayStop}
 use Rattle.runs.specs.Runs.{RunOf}
 use Rattle.orders.specs.declared.order.Order.{Order}
 use Rattle.orders.specs.declared.start.Start.{Start}
@@ -26,8 +30,8 @@ use Rattle.graphml.specs.Shown.{ShowsTheRun}
 use Rattle.graphml.proofs.Shown.{shows}
 use Rattle.player.specs.declared.fault.FileFault.{FileFault}
 use Rattle.player.specs.declared.program.Ran.{Ran}
-use Rattle.player.specs.Playing.{Stop, Playing, plays}
-use Rattle.player.specs.Program.{cap_and_plan_no, run, Prints, Played, SetUp}
+use Rattle.player.specs.Playing.{Playing, playing, Plays, stop_told}
+use Rattle.player.specs.Program.{cap_and_plan_no, file_rules, orders_run, Prints, Played, SetUp}
 use Rattle.player.specs.Notices.{refused_line}
 use Rattle.player.specs.Told.{bytes_told, lines_told}
 use Rattle.player.specs.Faults.{file_number, TellsOfNoRecord}
@@ -49,10 +53,11 @@ not_set_up (suc k) m s orders hs out r f asked t e =
 
 -- both questions are answered yes, and the file is played
 pub set_up : (s : Start) (m m' : Meaning) (plan : Plan) (orders : List Order) (hs hs' : List Happening) (out out' : List ℕ) (bytes : ℕ) (lines : List ℕ) →
-    cap_and_plan_no s ≡ 0 → m' ≡ m → plan.kind ≡ s.kind → plan.n ≡ s.parties → Played m' plan orders hs hs' out out' bytes lines →
+    cap_and_plan_no s ≡ 0 → m' ≡ m → plan.kind ≡ s.kind → plan.n ≡ s.parties → Played (file_rules m' plan hs) orders hs hs' out out' bytes lines →
     SetUp (cap_and_plan_no s) m s orders hs hs' out out' bytes lines
 set_up s m m' plan orders hs hs' out out' bytes lines z e k n p =
-    subst (λ i. SetUp i m s orders hs hs' out out' bytes lines) (sym z) (plan, k, n, subst (λ x. Played x plan orders hs hs' out out' bytes lines) e p)
+    subst (λ i. SetUp i m s orders hs hs' out out' bytes lines) (sym z)
+    (plan, k, n, subst (λ x. Played (file_rules x plan hs) orders hs hs' out out' bytes lines) e p)
 
 framed : (b c : Bool) (x e : Exported) (r₀ r₁ : Refusal) (t out out' : List ℕ) → Ok e ≡ cond b (cond c (Ok x) (Err r₀)) (Err r₁) →
     out' ≡ cond b (cond c (over t out) out) out → x.bytes ≡ length t → length out' ≡ length out → e.bytes ≤ length out
@@ -63,61 +68,66 @@ framed true false x e r₀ r₁ t out out' a w n long = let z : ◌≡◌ {A = �
 framed false c x e r₀ r₁ t out out' a w n long = let z : ◌≡◌ {A = ℕ} 0 1 = cc in omega arith
 
 -- no more bytes are told than the output has
-pub told_within : (s : Play) (n : ℕ) (out out' : List ℕ) (e : Exported) → Ok e ≡ export_answer s n (length out) → out' ≡ export_bytes s n out →
+pub told_within : (s : State) (n : ℕ) (out out' : List ℕ) (e : Exported) → Ok e ≡ export_answer s n (length out) → out' ≡ export_bytes s n out →
     length out' ≡ length out → e.bytes ≤ length out
 told_within s n out out' e a w long =
     framed (is_own_log s) (leb 275 (length out)) (summary (part s.log n (length out)) _) e _ _ (in_frame (part s.log n (length out))) out out' a w refl long
 
-module _ (m : Meaning) (sound : Lawful m) (plan : Plan) (orders : List Order) (hs : List Happening) where
+-- a group just opened over the lent slots, and what it came to
+module _ {A : Type 0} {D : Ghosts A} (orders : List Order) (hs : List Happening) (g g' : Group A D) (l l' : SlotList Happening) (answer : Result (Unit {0}) PlayStop)
+    (sound : Lawful (D.means g.pace)) (new : g.table ≡ new_table (D.means g.pace).tmax g.plan.kind) (empty : items l ≡ []) (lent : spare l ≡ hs)
+    (made : Plays orders g g' l l' answer) where
+  abbrev R : Rules
+  R = file_rules (D.means g.pace) g.plan hs
+
   abbrev ran : Playing
-  ran = run m plan (length hs) orders
+  ran = orders_run R orders
 
-  taken : RunOf m plan (length hs) ran.calls (opened m plan) ran.play
-  taken = plays_run m plan (length hs) 0 orders (opened m plan)
+  taken : RunOf R ran.calls (opening R) ran.state
+  taken = plays_run R 0 orders (opening R)
 
-  kept : KeepsTheRules m plan (length hs) taken.steps ran.play
-  kept = keeps m plan (length hs) sound taken.steps ran.play taken.by_the_rules
+  kept : KeepsTheRules R taken.steps ran.state
+  kept = keeps R sound taken.steps ran.state taken.by_the_rules
 
-  module _ (t t' : Table) (l l' : SlotList Happening) (stop : Stop) (new : t ≡ (opened m plan).table) (empty : items l ≡ []) (lent : spare l ≡ hs)
-      (after : play t' l' ≡ (plays m plan (capacity l) 0 orders (play t l)).play) (stopped : stop ≡ (plays m plan (capacity l) 0 orders (play t l)).stop)
-      (grew : Extends l l') where
-    slots_are : l.slots.now ≡ hs
-    slots_are = fresh l hs empty lent
+  slots_are : l.slots.now ≡ hs
+  slots_are = fresh l hs empty lent
 
-    from_new : plays m plan (capacity l) 0 orders (play t l) ≡ ran
-    from_new =
-        ap (λ (xs : List Happening). plays m plan (length xs) 0 orders (play t l)) slots_are
-        ∙ ap (λ x. plays m plan (length hs) 0 orders (record { table = x; log = items l })) new
-        ∙ ap (λ x. plays m plan (length hs) 0 orders (record { table = (opened m plan).table; log = x })) empty
+  start : state g l ≡ opening R
+  start = ap₂ (λ (t : Table) (xs : List Happening). record { table = t; log = xs }) new empty
 
-    play_is : play t' l' ≡ ran.play
-    play_is = after ∙ ap (λ (x : Playing). x.play) from_new
+  from_new : playing (rules g l) 0 orders (state g l) ≡ ran
+  from_new =
+      ap (λ (xs : List Happening). playing (file_rules (D.means g.pace) g.plan xs) 0 orders (state g l)) slots_are
+      ∙ ap (λ s. playing R 0 orders s) start
 
-    log_is : l'.slots.now ≡ ran.play.log ++ drop (length ran.play.log) hs
-    log_is =
-        let it : items l' ≡ ran.play.log = ap (λ (x : Play). x.log) play_is in
-        whole l' ∙ ap (λ xs. xs ++ spare l') it
-        ∙ ap (λ xs. ran.play.log ++ xs)
-        (grew.later ∙ ap (λ xs. drop l'.len xs) slots_are ∙ ap (λ k. drop k hs) (sym (items_length l') ∙ ap length it))
+  state_is : state g' l' ≡ ran.state
+  state_is = made.after ∙ ap (λ (x : Playing). x.state) from_new
 
-    -- what came of the playing is exported by a group of that plan, and printed with the stop
-    pub played : (hs' : List Happening) (out out' : List ℕ) (p : Plan) (r : Result Exported Refusal) (bytes : ℕ) (lines : List ℕ) →
-        hs' ≡ l'.slots.now → p ≡ plan → r ≡ export_answer (play t' l') p.n (length out) → out' ≡ export_bytes (play t' l') p.n out →
-        IfOk r (λ x. x.whole ≡ true → take x.bytes out' ≡ in_frame (body (items l') p.n)) →
-        IfOk r (λ x. x.whole ≡ false → EndsAt spelling (length out - 275) (body (items l') p.n)) →
-        IfOk r (λ x. Closes (take x.bytes out')) → IfOk r (λ x. ShowsTheLog p.n (items l') x (take x.bytes out')) →
-        Prints r stop bytes lines → Played m plan orders hs hs' out out' bytes lines
-    played hs' out out' p r bytes lines h same answer written entire cut closes shows_log prints =
-        let here = subst (KeepsTheRules m plan (length hs) taken.steps) (sym play_is) kept in
-        let shown =
-        subst (λ x. ShowsTheRun m plan (length hs) taken.steps x out out' r) play_is
-        (shows m plan (length hs) taken.steps (play t' l') out out' r p same here answer written entire cut closes shows_log) in
-        record {
-          made = taken;
-          promise = kept;
-          log = h ∙ log_is;
-          file = subst (ShowsTheRun m plan (length hs) taken.steps ran.play out out') shown.answer_as_defined shown;
-          prints =
-              subst (λ x. Prints x ran.stop bytes lines) shown.answer_as_defined
-              (subst (λ x. Prints r x bytes lines) (stopped ∙ ap (λ (x : Playing). x.stop) from_new) prints);
-        }
+  log_is : l'.slots.now ≡ ran.state.log ++ drop (length ran.state.log) hs
+  log_is =
+      let it : items l' ≡ ran.state.log = ap (λ (x : State). x.log) state_is in
+      whole l' ∙ ap (λ xs. xs ++ spare l') it
+      ∙ ap (λ xs. ran.state.log ++ xs)
+      (made.stays.extends.later ∙ ap (λ xs. drop l'.len xs) slots_are ∙ ap (λ k. drop k hs) (sym (items_length l') ∙ ap length it))
+
+  -- it is exported, and printed with the stop
+  pub played : (hs' : List Happening) (out out' : List ℕ) (r : Result Exported Refusal) (bytes : ℕ) (lines : List ℕ) →
+      hs' ≡ l'.slots.now → r ≡ export_answer (state g' l') g'.plan.n (length out) → out' ≡ export_bytes (state g' l') g'.plan.n out →
+      IfOk r (λ x. x.whole ≡ true → take x.bytes out' ≡ in_frame (body (items l') g'.plan.n)) →
+      IfOk r (λ x. x.whole ≡ false → EndsAt spelling (length out - 275) (body (items l') g'.plan.n)) →
+      IfOk r (λ x. Closes (take x.bytes out')) → IfOk r (λ x. ShowsTheLog g'.plan.n (items l') x (take x.bytes out')) →
+      Prints r (stop_told answer) bytes lines → Played R orders hs hs' out out' bytes lines
+  played hs' out out' r bytes lines h told written entire cut closes shows_log prints =
+      let here = subst (KeepsTheRules R taken.steps) (sym state_is) kept in
+      let shown =
+      subst (λ x. ShowsTheRun R taken.steps x out out' r) state_is
+      (shows R taken.steps (state g' l') out out' r g'.plan made.stays.plan here told written entire cut closes shows_log) in
+      record {
+        made = taken;
+        promise = kept;
+        log = h ∙ log_is;
+        file = subst (ShowsTheRun R taken.steps ran.state out out') shown.answer_as_defined shown;
+        prints =
+            subst (λ x. Prints x ran.stop bytes lines) shown.answer_as_defined
+            (subst (λ x. Prints r x bytes lines) (made.stop ∙ ap (λ (x : Playing). x.stop) from_new) prints);
+      }

@@ -1,23 +1,25 @@
 -- The calls of one order: its ticks, and then its own.
 use Rattle.std.proofs.Common.{◌≡◌, ℕ, suc, true, false, List, [], ◌∷◌, ◌++◌, Some, Option, Ok, Err, Result, MatchResult, is_ok, sym, refl, ap, ◌∙◌}
-use Rattle.pace.specs.Meaning.{Meaning}
 use Rattle.slots.specs.declared.SlotList.{SlotList}
-use Rattle.slots.specs.Slots.{capacity, Extends}
-use Rattle.slots.proofs.Growing.{extends_trans}
 use Rattle.protocol.specs.declared.happening.Happening.{Happening}
-use Rattle.protocol.specs.declared.table.Table.{Table}
-use Rattle.protocol.specs.declared.plan.Plan.{Plan}
 use Rattle.protocol.specs.declared.call.Call.{Call}
-use Rattle.protocol.specs.Group.{Play}
+use Rattle.protocol.specs.State.{State}
 use Rattle.protocol.specs.Runs.{number, perform}
-use Rattle.protocol.specs.Making.{Making, makes}
-use Rattle.protocol.specs.Views.{play}
+use Rattle.protocol.specs.Making.{Making, making}
 use Rattle.protocol.proofs.Making.{some_number, makes_then, makes_no_more, makes_one}
 use Rattle.player.specs.declared.play.PlayFault.{PlayFault}
 use Rattle.player.specs.declared.play.PlayFault.TheVariants.{Refused}
 use Rattle.player.specs.declared.play.PlayStop.{PlayStop}
-use Rattle.player.specs.Playing.{at_most_one, fault_number, fault_told, stop_told, Made}
-use Rattle.player.proofs.Turns.{Turn}
+use Rattle.player.specs.Playing.{at_most_one, fault_number, fault_told, stop_told, Makes}
+
+use Rattle.pace.specs.declared.meaning.Pace.{Ghosts}
+use Rattle.protocol.specs.Rules.{Rules}
+use Rattle.protocol.specs.Answers.{number_told}
+use Rattle.protocol.specs.declared.refusal.Refusal.{Refusal}
+use Rattle.group.specs.declared.group.Group.{Group}
+use Rattle.group.specs.Does.{rules, state, Does}
+use Rattle.group.proofs.Staying.{stays_on}
+use Rattle.player.proofs.Turns.{turn}
 
 -- no fault has number 0
 pub some_fault : (f : PlayFault) → (k : ℕ) × (fault_number f ≡ suc k)
@@ -37,26 +39,31 @@ stopped P Q (Err f) place y h made e =
     let k = some_fault f in
     (k.0, k.1, ap (λ x. stop_told (Err x)) (made f h) ∙ ap (λ n. record { order = place; number = n }) k.1)
 
-module _ (m : Meaning) (plan : Plan) (xs : List Call) (t t' : Table) (l l' : SlotList Happening) where
-  abbrev s : Play
-  s = play t l
+module _ {A : Type 0} {D : Ghosts A} (xs : List Call) (g g' : Group A D) (l l' : SlotList Happening) (answer : Result (Unit {0}) PlayFault) where
+  abbrev R : Rules
+  R = rules g l
+
+  abbrev s : State
+  s = state g l
 
   -- a refused call ends the making
-  pub made_no_more : (ys : List Call) (told told' k : ℕ) → told ≡ suc k → told' ≡ told → Made m plan xs t t' l l' told → Made m plan (xs ++ ys) t t' l l' told'
-  made_no_more ys told told' k z e h =
-      let r = makes_no_more m plan (capacity l) xs ys s k (sym h.answer ∙ z) in
-      record { answer = e ∙ h.answer ∙ sym r.number; after = h.after ∙ sym r.play; extends = h.extends }
+  pub made_no_more : (ys : List Call) (other : Result (Unit {0}) PlayFault) (k : ℕ) → fault_told answer ≡ suc k → fault_told other ≡ fault_told answer →
+      Makes xs g g' l l' answer → Makes (xs ++ ys) g g' l l' other
+  made_no_more ys other k z e h =
+      let r = makes_no_more R xs ys s k (sym h.number ∙ z) in
+      record { stays = h.stays; number = e ∙ h.number ∙ sym r.number; after = h.after ∙ sym r.state }
 
   -- an order's own call, after ticks of which none was refused
-  pub made_own : (call : Call) (own : Option Call) (t'' : Table) (l'' : SlotList Happening) (told told' : ℕ) → Some call ≡ own → told' ≡ told →
-      Made m plan xs t t' l l' 0 → Turn m plan (capacity l) call t' t'' l' l'' told → Extends l' l'' → Made m plan (xs ++ at_most_one own) t t'' l l'' told'
-  made_own call own t'' l'' told told' own_is told_is h w e =
-      let room = capacity l in
-      let r = makes_then m plan room xs (call ∷ []) s (sym h.answer) in
-      let o = makes_one m plan room call (makes m plan room xs s).play in
-      let same : makes m plan room (xs ++ (call ∷ [])) s ≡ makes m plan room (xs ++ at_most_one own) s = ap (λ x. makes m plan room (xs ++ at_most_one x) s) own_is in
+  pub made_own : (call : Call) (own : Option Call) (g'' : Group A D) (l'' : SlotList Happening) (own_answer : Result (Unit {0}) Refusal) (all : Result (Unit {0}) PlayFault) →
+      Some call ≡ own → fault_told all ≡ number_told own_answer → fault_told answer ≡ 0 → Makes xs g g' l l' answer →
+      Does call g' g'' l' l'' own_answer → Makes (xs ++ at_most_one own) g g'' l l'' all
+  made_own call own g'' l'' own_answer all own_is told_is none h d =
+      let w = turn g g' g'' l l' l'' call own_answer h.stays d in
+      let r = makes_then R xs (call ∷ []) s (sym h.number ∙ none) in
+      let o = makes_one R call (making R xs s).state in
+      let same : making R (xs ++ (call ∷ [])) s ≡ making R (xs ++ at_most_one own) s = ap (λ x. making R (xs ++ at_most_one x) s) own_is in
       record {
-        answer = told_is ∙ w.answer ∙ ap (λ x. number plan room call x) h.after ∙ sym (r.number ∙ o.number) ∙ ap (λ (x : Making). x.number) same;
-        after = w.after ∙ ap (λ x. perform m plan room call x) h.after ∙ sym (r.play ∙ o.play) ∙ ap (λ (x : Making). x.play) same;
-        extends = extends_trans l l' l'' h.extends e;
+        stays = stays_on g g' g'' l l' l'' h.stays d.stays;
+        number = told_is ∙ w.number ∙ ap (λ x. number R call x) h.after ∙ sym (r.number ∙ o.number) ∙ ap (λ (x : Making). x.number) same;
+        after = w.after ∙ ap (λ x. perform R call x) h.after ∙ sym (r.state ∙ o.state) ∙ ap (λ (x : Making). x.state) same;
       }

@@ -1,7 +1,7 @@
 -- Notices worked out by hand, in full.
 use Rattle.std.specs.Prelude.{◌≡◌, true, false, [], ◌++◌, length, replicate, Ok, Err, codes}
 use Rattle.protocol.specs.declared.refusal.Refusal.TheVariants.{NoSlot, BeatDue}
-use Rattle.text.specs.Lines.{padded}
+use Rattle.text.specs.Lines.{padded_text}
 use Rattle.player.specs.declared.play.PlayFault.TheVariants.{Refused}
 use Rattle.player.specs.Notices.{notice_lines}
 
@@ -17,6 +17,6 @@ pub record NoticesByHand : Type 0 where
       ≡ codes "<!-- cut -->\n<!-- refused order 40 number 12 -->\n"
   -- the 128 bytes of a line, and how long it is
   pub cut_bytes :
-      padded (notice_lines (Ok record { cut = true; end = Ok tt })) ≡ codes "<!-- cut -->\n" ++ replicate 115 0
+      padded_text (notice_lines (Ok record { cut = true; end = Ok tt })) ≡ codes "<!-- cut -->\n" ++ replicate 115 0
   pub cut_length : length (notice_lines (Ok record { cut = true; end = Ok tt })) ≡ 13
   pub not_played : notice_lines (Err record { byte = 23; number = 15 }) ≡ codes "refused byte 23 number 15\n"

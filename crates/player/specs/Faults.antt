@@ -1,6 +1,6 @@
 -- What is told of a file that is not played.
 use Rattle.std.specs.Prelude.{◌≡◌, ℕ}
-use Rattle.pace.specs.Answers.{number}
+use Rattle.pace.specs.Answers.{pace_refusal_number}
 use Rattle.protocol.specs.Plans.{bad_count_number}
 use Rattle.orders.specs.Faults.{fault_number}
 use Rattle.graphml.specs.Answer.{refusal_number}
@@ -17,7 +17,7 @@ file_byte (Export e) = 0
 -- the number of the question that was answered no
 abbrev pub file_number : FileFault → ℕ
 file_number (Read f) = fault_number f
-file_number (Pace e) = number e
+file_number (Pace e) = pace_refusal_number e
 file_number (Plan e) = bad_count_number e
 file_number (Export e) = refusal_number e
 

@@ -1,21 +1,18 @@
 -- Orders played over a group: the calls that each asks for, and what comes of making them up to the first refusal.
 use Rattle.std.specs.Prelude.{◌≡◌, ℕ, zero, suc, ◌+◌, ◌-◌, List, [], ◌∷◌, ◌++◌, replicate, Some, None, Ok, Err, Option, Result}
-use Rattle.pace.specs.Meaning.{Meaning}
+use Rattle.pace.specs.declared.meaning.Pace.{Ghosts}
 use Rattle.slots.specs.declared.SlotList.{SlotList}
-use Rattle.slots.specs.Slots.{capacity, Extends}
 use Rattle.protocol.specs.declared.happening.Happening.{Happening}
-use Rattle.protocol.specs.declared.table.Table.{Table}
-use Rattle.protocol.specs.declared.plan.Plan.{Plan}
 use Rattle.protocol.specs.declared.call.Call.{Call}
-use Rattle.protocol.specs.declared.call.Call.TheVariants.{Tick}
-use Rattle.protocol.specs.declared.call.Call.TheVariants.{Deliver as ToDeliver, Lose as ToLose, Crash as ToCrash, Join as ToJoin, Leave as ToLeave}
+use Rattle.protocol.specs.declared.call.Call.TheVariants.{Tick, Deliver as ToDeliver, Lose as ToLose, Crash as ToCrash, Join as ToJoin, Leave as ToLeave}
 use Rattle.protocol.specs.declared.call.Step.{Step}
 use Rattle.protocol.specs.Answers.{refusal_number}
-use Rattle.protocol.specs.Group.{Play, opened}
-use Rattle.protocol.specs.Making.{Making, makes}
+use Rattle.protocol.specs.State.{State, opening}
+use Rattle.protocol.specs.Making.{Making, making}
 use Rattle.protocol.specs.Rehearsals.{Rehearsed}
-use Rattle.protocol.specs.Views.{play}
 use Rattle.protocol.specs.Promise.{KeepsTheRules}
+use Rattle.group.specs.declared.group.Group.{Group}
+use Rattle.group.specs.Does.{rules, state, Stays}
 use Rattle.runs.specs.Runs.{RunOf}
 use Rattle.orders.specs.declared.order.Order.{Order}
 use Rattle.orders.specs.declared.order.OrderKind.{OrderKind}
@@ -23,6 +20,7 @@ use Rattle.orders.specs.declared.order.OrderKind.TheVariants.{Deliver, Lose, Cra
 use Rattle.player.specs.declared.play.PlayFault.{PlayFault}
 use Rattle.player.specs.declared.play.PlayFault.TheVariants.{Refused}
 use Rattle.player.specs.declared.play.PlayStop.{PlayStop}
+use Rattle.protocol.specs.Rules.{Rules}
 
 -- the call of each kind of order, for that party and leg; a wait has none
 abbrev pub call_as : OrderKind → ℕ → ℕ → Option Call
@@ -51,27 +49,23 @@ pub record Stop : Type 0 where
 
 -- what came of playing orders: the group and its log, the calls that were made, and where it ended
 pub record Playing : Type 0 where
-  pub play : Play
+  pub state : State
   pub calls : List Call
   pub stop : Stop
 
 -- an order at place k of which no call was refused is followed by the others, any other is the last
 abbrev pub goes_on_from : ℕ → ℕ → Making → Playing → Playing
-goes_on_from zero k x rest = record { play = rest.play; calls = x.calls ++ rest.calls; stop = rest.stop }
-goes_on_from (suc n) k x rest = record { play = x.play; calls = x.calls; stop = record { order = k; number = suc n } }
+goes_on_from zero k x rest =
+    record { state = rest.state; calls = x.calls ++ rest.calls; stop = rest.stop }
+goes_on_from (suc n) k x rest =
+    record { state = x.state; calls = x.calls; stop = record { order = k; number = suc n } }
 
 -- orders that stand from place k on, played one after another, up to the first refusal
-abbrev pub plays : Meaning → Plan → ℕ → ℕ → List Order → Play → Playing
-plays m plan room k [] s = record { play = s; calls = []; stop = record { order = 0; number = 0 } }
-plays m plan room k (o ∷ os) s =
-    let x = makes m plan room (calls_for s.table.clock o) s in
-    goes_on_from x.number k x (plays m plan room (k + 1) os x.play)
-
--- the calls were made, up to the first refusal: the table, the records and the answer are those that `makes` gives
-pub record Made (m : Meaning) (plan : Plan) (calls : List Call) (t t' : Table) (l l' : SlotList Happening) (told : ℕ) : Type 0 where
-  pub answer : told ≡ (makes m plan (capacity l) calls (play t l)).number
-  pub after : play t' l' ≡ (makes m plan (capacity l) calls (play t l)).play
-  pub extends : Extends l l'
+abbrev pub playing : Rules → ℕ → List Order → State → Playing
+playing rules k [] s = record { state = s; calls = []; stop = record { order = 0; number = 0 } }
+playing rules k (o ∷ os) s =
+    let x = making rules (calls_for s.table.clock o) s in
+    goes_on_from x.number k x (playing rules (k + 1) os x.state)
 
 -- the number of a fault is that of the group's own refusal inside it
 abbrev pub fault_number : PlayFault → ℕ
@@ -86,12 +80,22 @@ abbrev pub stop_told : Result (Unit {0}) PlayStop → Stop
 stop_told (Ok u) = record { order = 0; number = 0 }
 stop_told (Err x) = record { order = x.order; number = fault_number x.fault }
 
--- the orders were played, up to the first refusal: the table, the records and the stop are those that `plays` gives, and they come of a
--- run of its calls by the rules. Where calls from the opening on had brought the group to where it stood, both together keep the promise of a run
-pub record OrdersPlayed (m : Meaning) (plan : Plan) (orders : List Order) (t t' : Table) (l l' : SlotList Happening) (stop : Stop) : Type 0 where
-  pub answer : stop ≡ (plays m plan (capacity l) 0 orders (play t l)).stop
-  pub after : play t' l' ≡ (plays m plan (capacity l) 0 orders (play t l)).play
-  pub extends : Extends l l'
-  pub run : RunOf m plan (capacity l) (plays m plan (capacity l) 0 orders (play t l)).calls (play t l) (play t' l')
-  pub promise : (before : List Step) → Rehearsed m plan (capacity l) (opened m plan) before (play t l) →
-      KeepsTheRules m plan (capacity l) (before ++ run.steps) (play t' l')
+-- the calls were made, up to the first that was refused, of which the answer tells
+pub record Makes {A : Type 0} {d : Ghosts A} (calls : List Call) (g g' : Group A d)
+    (l l' : SlotList Happening) (answer : Result (Unit {0}) PlayFault) : Type 0 where
+  pub stays : Stays g g' l l'
+  pub number : fault_told answer ≡ (making (rules g l) calls (state g l)).number
+  pub after : state g' l' ≡ (making (rules g l) calls (state g l)).state
+
+-- the orders were played, up to the first refusal, at which the answer stops: a run of their calls by
+-- the rules. Where steps from the opening on had brought the group to where it stood, both together
+-- keep the promise of a run
+pub record Plays {A : Type 0} {d : Ghosts A} (orders : List Order) (g g' : Group A d)
+    (l l' : SlotList Happening) (answer : Result (Unit {0}) PlayStop) : Type 0 where
+  pub stays : Stays g g' l l'
+  pub stop : stop_told answer ≡ (playing (rules g l) 0 orders (state g l)).stop
+  pub after : state g' l' ≡ (playing (rules g l) 0 orders (state g l)).state
+  pub run : RunOf (rules g l) (playing (rules g l) 0 orders (state g l)).calls
+      (state g l) (state g' l')
+  pub promise : (before : List Step) → Rehearsed (rules g l) (opening (rules g l)) before (state g l) →
+      KeepsTheRules (rules g l) (before ++ run.steps) (state g' l')

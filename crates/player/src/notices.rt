@@ -1,6 +1,6 @@
 // The lines that tell of a file what its run does not show.
 ghost use Rattle.std.specs.Prelude.{◌≡◌, ◌≤◌, ◌++◌, length};
-ghost use Rattle.text.specs.Lines.{padded};
+ghost use Rattle.text.specs.Lines.{padded_text};
 ghost use Rattle.player.specs.Playing.{fault_number, stop_told};
 ghost use Rattle.player.specs.Example.{NoticesByHand};
 ghost use Rattle.player.specs.Notices.{refused_line, cut_line, stopped_line, stop_line, notice_lines};
@@ -25,7 +25,7 @@ pub struct RefusedFile {
 
 // The lines that tell what came of a file. No Display, since they are answered as the bytes of one line with their length.
 pub fn notices(outcome: Result<PlayedFile, RefusedFile>) -> LineBytes
-    ensures bytes { result.bytes ≡ padded (notice_lines outcome) }
+    ensures bytes { result.bytes ≡ padded_text (notice_lines outcome) }
     ensures len { result.len ≡ length (notice_lines outcome) }
     ensures within { result.len ≤ 128 }
     ensures by_hand { NoticesByHand }

@@ -1,7 +1,7 @@
 // The group that a file asks for.
 ghost use Rattle.std.specs.Prelude.{◌≡◌, ◌↔◌, IfOk, IfErr, IsOk};
-ghost use Rattle.pace.specs.Cap.{capped};
-ghost use Rattle.protocol.specs.Group.{opened};
+ghost use Rattle.pace.specs.Cap.{capped_meaning};
+ghost use Rattle.protocol.specs.State.{new_table};
 ghost use Rattle.player.specs.Faults.{TellsOfNoRecord};
 ghost use Rattle.player.specs.Program.{cap_and_plan_no};
 
@@ -18,7 +18,8 @@ pub fn open<P: Pace + Drop>(pace: P, start: Start) -> Result<Group<Cap<P>>, File
     ensures refused { IfErr result (TellsOfNoRecord (cap_and_plan_no start)) }
     ensures pace { IfOk result (λ g. (g.pace.pace ≡ pace) × (g.pace.m ≡ start.cap)) }
     ensures plan { IfOk result (λ g. (g.plan.kind ≡ start.kind) × (g.plan.n ≡ start.parties)) }
-    ensures table { IfOk result (λ g. g.table ≡ (opened (capped start.cap (P.means pace)) g.plan).table) }
+    ensures table { IfOk result (λ g. g.table
+        ≡ new_table (capped_meaning start.cap (P.means pace)).tmax g.plan.kind) }
 {
     let mut capped = Cap::new(pace);
     capped.set(start.cap as u32)?;

@@ -1,9 +1,9 @@
-// Plays a list of orders over a group. Group and log stay two parameters, and each function says that pace and plan stay, as the group's calls do.
+// Plays a list of orders over a group.
 ghost use Rattle.std.specs.Prelude.{◌≡◌, ◌-◌, replicate};
 ghost use Rattle.slots.specs.Slots.{items};
 ghost use Rattle.protocol.specs.declared.call.Call.TheVariants.{Tick};
 ghost use Rattle.player.specs.declared.play.PlayFault.TheVariants.{Refused};
-ghost use Rattle.player.specs.Playing.{own_call, calls_for, fault_number, fault_told, stop_told, Made, OrdersPlayed};
+ghost use Rattle.player.specs.Playing.{own_call, calls_for, fault_number, Makes, Plays};
 
 use group::Group;
 use orders::order::{Order, OrderKind};
@@ -66,9 +66,8 @@ pub fn tick_to<P: Pace>(
     log: &mut SlotList<'_, Happening>,
     tick: u32,
 ) -> Result<(), PlayFault>
-    ensures pace { group.new.pace ≡ group.old.pace }
-    ensures plan { group.new.plan ≡ group.old.plan }
-    ensures made { Made (P.means group.old.pace) group.old.plan (replicate (tick - group.old.table.clock) Tick) group.old.table group.new.table log.old log.new (fault_told result) }
+    ensures { Makes (replicate (tick - group.old.table.clock) Tick)
+        group.old group.new log.old log.new result }
 {
     while group.clock() < tick {
         group.advance(log, tick)?;
@@ -82,9 +81,8 @@ fn obey<P: Pace>(
     log: &mut SlotList<'_, Happening>,
     order: Order,
 ) -> Result<(), PlayFault>
-    ensures pace { group.new.pace ≡ group.old.pace }
-    ensures plan { group.new.plan ≡ group.old.plan }
-    ensures made { Made (P.means group.old.pace) group.old.plan (calls_for group.old.table.clock order) group.old.table group.new.table log.old log.new (fault_told result) }
+    ensures { Makes (calls_for group.old.table.clock order)
+        group.old group.new log.old log.new result }
 {
     tick_to(group, log, order.tick)?;
     if let Some(call) = own_call(order) {
@@ -99,9 +97,7 @@ pub fn play<P: Pace>(
     orders: &SlotList<'_, Order>,
     log: &mut SlotList<'_, Happening>,
 ) -> Result<(), PlayStop>
-    ensures pace { group.new.pace ≡ group.old.pace }
-    ensures plan { group.new.plan ≡ group.old.plan }
-    ensures played { OrdersPlayed (P.means group.old.pace) group.old.plan (items orders.now) group.old.table group.new.table log.old log.new (stop_told result) }
+    ensures { Plays (items orders.now) group.old group.new log.old log.new result }
 {
     let all = orders.as_slice();
     for (place, order) in all.iter().enumerate() {

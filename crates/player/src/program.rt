@@ -1,6 +1,6 @@
 // All that the program does between its input and its output.
 ghost use Rattle.std.specs.Prelude.{◌≤◌, length};
-ghost use Rattle.pace.specs.Cap.{capped};
+ghost use Rattle.pace.specs.Cap.{capped_meaning};
 ghost use Rattle.slots.specs.Slots.{items};
 ghost use Rattle.player.specs.Told.{bytes_told, lines_told};
 ghost use Rattle.player.specs.Program.{cap_and_plan_no, SetUp, FileOutcome, FileRun};
@@ -74,7 +74,7 @@ fn play_at<P: Pace + Drop>(
     log_slots: &mut [Happening],
     out: &mut [u8],
 ) -> Result<Ran, FileFault>
-    ensures run { SetUp (cap_and_plan_no start) (capped start.cap (P.means pace)) start (items orders.now) log_slots.old log_slots.new out.old out.new (bytes_told result) (lines_told result) }
+    ensures run { SetUp (cap_and_plan_no start) (capped_meaning start.cap (P.means pace)) start (items orders.now) log_slots.old log_slots.new out.old out.new (bytes_told result) (lines_told result) }
     ensures within { bytes_told result ≤ length out.old }
 {
     let mut group = open(pace, start)?;

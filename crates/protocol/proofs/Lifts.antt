@@ -98,7 +98,17 @@ module _ {A : Type 0} (g : ℕ → A → ℕ) (falls : (s : ℕ) (x : A) → g s
   fold_below P v low (suc n) s (x ∷ xs) d zero h long p = omega (arith, low s x p, fold_falls (g s x) (take n xs))
   fold_below P v low (suc n) s (x ∷ xs) d (suc k) h long p = fold_below P v low n (g s x) xs d k (omega arith) (omega arith) p
 
--- and stays above a floor of each step
+-- a fold at whose state no element changes it
+pub fold_still :
+    {S A : Type 0} (g : S → A → S) (P : A → Type 0) (s : S) → ((x : A) → P x → g s x ≡ s) →
+    (n : ℕ) (xs : List A) (d : A) → ((k : ℕ) → k < n → P (get_or xs k d)) → fold g s (take n xs) ≡ s
+fold_still g P s still zero xs d h = refl
+fold_still g P s still (suc n) [] d h = refl
+fold_still g P s still (suc n) (x ∷ xs) d h =
+    ap (λ t. fold g t (take n xs)) (still x (h 0 (omega arith)))
+    ∙ fold_still g P s still n xs d (λ k i. h (suc k) (omega arith))
+
+-- a fold of steps that stay above a floor stays above it
 pub fold_above :
     {A : Type 0} (g : ℕ → A → ℕ) (P : A → Type 0) (m : ℕ) → ((s : ℕ) (x : A) → P x → m ≤ s → m ≤ g s x) →
     (n s : ℕ) (xs : List A) (d : A) → n ≤ length xs → ((k : ℕ) → k < n → P (get_or xs k d)) → m ≤ s → m ≤ fold g s (take n xs)

@@ -38,7 +38,7 @@ asked_log true true e = (refl, refl)
 asked_log true false e = absurd (omega arith)
 asked_log false b e = absurd (omega arith)
 
-asked_tick : (a b : Bool) (x : ℕ) → asks a 10 (asks b 11 x) ≡ 0 → x ≡ 0
+pub asked_tick : (a b : Bool) (x : ℕ) → asks a 10 (asks b 11 x) ≡ 0 → x ≡ 0
 asked_tick true true x e = e
 asked_tick true false x e = absurd (omega arith)
 asked_tick false b x e = absurd (omega arith)
@@ -88,7 +88,7 @@ module _ (rules : Rules) where
       ∙ ap (λ (k : ℕ). record { table = record { clock = s.table.clock + 1; root = s.table.root; start = s.table.start; length = s.table.length; logged = k; parties = s.table.parties }; log = s.log }) (own_length s e)
 
   -- the log that fits the clock fits a later one
-  ready_later : (s : State) (c : ℕ) → s.table.clock ≤ c → log_ready s → log_ready (at_clock c s)
+  pub ready_later : (s : State) (c : ℕ) → s.table.clock ≤ c → log_ready s → log_ready (at_clock c s)
   ready_later s c h e =
       let slots = leb (length s.log + 2 * rules.plan.n) rules.room in
       let own = asked_log slots (is_own_log s) e in

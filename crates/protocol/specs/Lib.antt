@@ -12,6 +12,7 @@ pub mod calls
 pub mod Runs
 pub mod Making
 pub mod Quiet
+pub mod Idle
 pub mod Laws
 pub mod Beats
 pub mod Order

@@ -6,7 +6,7 @@ use Rattle.protocol.specs.declared.party.Standing.{Standing}
 use Rattle.protocol.specs.declared.party.Standing.TheVariants.{Outside, Live, Ended}
 use Rattle.protocol.specs.declared.table.Table.{Table}
 use Rattle.protocol.specs.declared.plan.Plan.{Plan}
-use Rattle.protocol.specs.Rules.{patience}
+use Rattle.protocol.specs.Rules.{patience, clock_limit}
 use Rattle.protocol.specs.calls.Tick.{due, calls_in, round_ends}
 use Rattle.protocol.specs.Party.{nobody}
 use Rattle.protocol.specs.State.{State}
@@ -39,5 +39,5 @@ pub record Quiet (m : Meaning) (plan : Plan) (t : Table) (c : ℕ) : Type 0 wher
 
 -- nothing is due from the clock up to b, which the clock may come to
 pub record QuietUntil (m : Meaning) (plan : Plan) (t : Table) (b : ℕ) : Type 0 where
-  pub limit : t.clock < b → b ≤ 4000000000
+  pub limit : t.clock < b → b ≤ clock_limit
   pub quiet : (c : ℕ) → t.clock ≤ c → c < b → Quiet m plan t c

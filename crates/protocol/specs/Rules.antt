@@ -13,6 +13,10 @@ pub record Rules : Type 0 where
   -- how many records its log has room for
   pub room : ℕ
 
+-- the last tick that a clock comes to
+abbrev pub clock_limit : ℕ
+clock_limit = 4000000000
+
 -- what a party that may have joined waits longer
 abbrev pub slack : GroupKind → ℕ → ℕ
 slack Closed trip = 0

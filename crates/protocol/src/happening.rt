@@ -4,7 +4,7 @@ ghost use Rattle.protocol.specs.Words.{kind_number, word};
 
 use slots::timed::Timed;
 
-// The ten kinds of happening.
+/// The ten kinds of happening, by their numbers.
 #[derive(Clone, Copy, Debug, Default, PartialEq, Eq)]
 pub enum HappeningKind {
     #[default]
@@ -35,6 +35,7 @@ impl From<HappeningKind> for u8 {
 }
 
 impl HappeningKind {
+    /// The word that stands for it in the exported file.
     pub fn word(self) -> &'static str
         ensures { result.now ≡ word self }
     {
@@ -42,13 +43,15 @@ impl HappeningKind {
     }
 }
 
-// One step that was logged. `owner` is the party concerned (0 is the root): of an arrival the receiver, of a loss the sender.
-// `link` is the log place of the beat's sending for an arrival or a loss, otherwise the happening's own place.
+/// One step that was logged.
 #[derive(Clone, Copy, Debug, Default, PartialEq, Eq)]
 pub struct Happening {
+    /// The clock when it happened.
     pub tick: u32,
+    /// Whom it is about, 0 for the root: of an arrival the receiver, of a loss the sender.
     pub owner: u8,
     pub kind: HappeningKind,
+    /// A place in the log: of an arrival or a loss the beat's sending, otherwise the record's own.
     pub link: usize,
 }
 

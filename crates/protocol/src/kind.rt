@@ -6,23 +6,23 @@ ghost use Rattle.protocol.specs.Texts.{kind_text};
 
 use std::fmt;
 
-// Each goes by its number in an order file.
+/// Who may join and who may leave; each goes by its number in an order file.
 #[derive(Clone, Copy, Debug, PartialEq, Eq)]
 pub enum GroupKind {
-    // everybody is in from the start
+    /// Everybody is in from the start.
     Closed = 1,
-    // parties may join
+    /// Parties may join.
     Expanding = 2,
-    // parties may join and leave
+    /// Parties may join and leave.
     Dynamic = 3,
 }
 
-// A number that stands for no kind: question 16.
+/// A number that stands for no kind: question 16.
 #[derive(Clone, Copy, Debug, PartialEq, Eq)]
 pub struct UnknownKind(pub u8);
 
 impl UnknownKind {
-    // Not a `From`: a byte alone would not say that it is the number of a question.
+    /// The number of the question that was answered no.
     pub fn number(self) -> u8
         ensures { result ≡ unknown_number self }
     {

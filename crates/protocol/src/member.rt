@@ -1,7 +1,7 @@
 // A party of a plan.
 ghost use Rattle.std.specs.Prelude.{◌≤◌};
 
-// Its number. A call may ask for any; `Plan::member` makes those that a plan has.
+/// A party that a plan has, by its number from 1; only `Plan::member` makes one.
 #[derive(Clone, Copy, Debug, PartialEq, Eq)]
 pub struct Member {
     pub number: u8,
@@ -12,7 +12,7 @@ pub struct Member {
 impl Member {
     ghost use Rattle.std.specs.Prelude.{◌≡◌, ◌-◌, ◌<◌};
 
-    // Where it stands in a table.
+    /// Its place in a table, from 0.
     pub fn index(self) -> usize
         ensures index { result ≡ self.number - 1 }
         ensures within { result < 32 }

@@ -4,7 +4,7 @@ ghost use Rattle.protocol.specs.Texts.{stage_text, ending_text};
 
 use std::fmt;
 
-// How far a party takes part.
+/// How far a live party takes part.
 #[derive(Clone, Copy, Debug, PartialEq, Eq)]
 pub enum Stage {
     Joining,
@@ -24,7 +24,7 @@ impl fmt::Display for Stage {
     }
 }
 
-// How a party has ended; only a leaving one ends as left.
+/// How a party has ended; only a leaving one ends as left.
 #[derive(Clone, Copy, Debug, PartialEq, Eq)]
 pub enum Ending {
     Crashed,
@@ -44,7 +44,7 @@ impl fmt::Display for Ending {
     }
 }
 
-// Where a party stands; one that has ended keeps the tick of its end and its stage before.
+/// Where a party stands; one that has ended keeps the tick of its end and its stage before.
 #[derive(Clone, Copy, Debug, PartialEq, Eq)]
 pub enum Standing {
     Outside,
@@ -52,7 +52,7 @@ pub enum Standing {
     Ended(Ending, u32, Stage),
 }
 
-// Whether the root sends to the party: only while it is on the roll. A struck party is struck for good.
+/// Whether the root sends to the party: only while it is on the roll. Struck is for good.
 #[derive(Clone, Copy, Debug, PartialEq, Eq)]
 pub enum Roll {
     Off,
@@ -60,46 +60,47 @@ pub enum Roll {
     Struck,
 }
 
-// A beat on a leg.
+/// A beat on a leg.
 #[derive(Clone, Copy, Debug, PartialEq, Eq)]
 pub struct Beat {
-    // The last tick at which it may be delivered or lost.
+    /// The last tick at which it may be delivered or lost.
     pub last: u32,
-    // It takes leave of the root.
+    /// It takes leave of the root.
     pub parting: bool,
-    // The place of its sending in the log.
+    /// The place of its sending in the log.
     pub place: usize,
 }
 
-// What the root notes of a party.
+/// What the root notes of a party.
 #[derive(Clone, Copy, Debug, PartialEq, Eq)]
 pub struct Note {
     pub roll: Roll,
-    // Heard in the present round.
+    /// Heard in the present round.
     pub heard: bool,
-    // Rounds in a row in which it was not heard.
+    /// Rounds in a row in which it was not heard.
     pub misses: u32,
 }
 
-// What a party knows of itself.
+/// What a party knows of itself.
 #[derive(Clone, Copy, Debug, PartialEq, Eq)]
 pub struct Own {
     pub standing: Standing,
-    // The tick when it last heard the root, or joined.
+    /// The tick when it last heard the root, or joined.
     pub since: u32,
 }
 
-// The beats under way, one at most on each leg.
+/// The beats under way, one at most on each leg.
 #[derive(Clone, Copy, Debug, PartialEq, Eq)]
 pub struct Legs {
-    // Leg 1: out from the root.
+    /// Leg 1: out from the root.
     pub out: Option<Beat>,
-    // Leg 2: the reply.
+    /// Leg 2: the reply.
     pub reply: Option<Beat>,
-    // Leg 3: the joining beats.
+    /// Leg 3: the joining beats.
     pub entry: Option<Beat>,
 }
 
+/// A party: the root's note of it, itself, and what is under way between the two.
 #[derive(Clone, Copy, Debug, PartialEq, Eq)]
 pub struct Party {
     pub note: Note,

@@ -3,7 +3,7 @@ ghost use Rattle.std.specs.Prelude.{◌≤◌};
 
 use crate::kind::GroupKind;
 
-// The kind of a group, and the number of its parties beside the root: 1 to 32.
+/// The kind of a group, and the number of its parties beside the root: 1 to 32.
 #[derive(Clone, Copy, Debug, PartialEq, Eq)]
 pub struct Plan {
     kind: GroupKind,

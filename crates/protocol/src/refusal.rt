@@ -5,29 +5,29 @@ ghost use Rattle.protocol.specs.Texts.{refusal_text};
 
 use std::fmt;
 
-// One for each question, by its number, in the order in which the questions are put.
+/// The question that was answered no, by its number, in the order in which they are put.
 #[derive(Clone, Copy, Debug, PartialEq, Eq)]
 pub enum Refusal {
-    // The party is not one of the plan's.
+    /// The party is not one of the plan's.
     NoSuchParty = 6,
-    // The kind of the group does not allow the call.
+    /// The kind of the group does not allow the call.
     KindForbids = 7,
-    // The party or the root is not in the state that the call wants.
+    /// The party or the root is not in the state that the call wants.
     WrongState = 8,
-    // The leg is none of the three, or holds no beat.
+    /// The leg is none of the three, or holds no beat.
     NoBeat = 9,
-    // The clock has come to its end.
+    /// The clock has come to its end.
     ClockAtEnd = 10,
-    // A beat whose last tick is the clock is still on its leg.
+    /// A beat whose last tick is the clock is still on its leg.
     BeatDue = 11,
-    // The log has not as many free slots as the call may need.
+    /// The log has not as many free slots as the call may need.
     NoSlot = 12,
-    // The log is not the one that the group wrote.
+    /// The log is not the one that the group wrote.
     LogDiffers = 13,
 }
 
 impl Refusal {
-    // Not a `From`: a byte alone would not say that it is the number of a question.
+    /// The number of the question that was answered no.
     pub fn number(self) -> u8
         ensures { result ≡ refusal_number self }
     {

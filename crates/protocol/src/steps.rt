@@ -24,8 +24,8 @@ impl Beat {
 }
 
 impl Party {
-    // A beat of the root arrives at the party, which replies to it while it lives; answers whether it does.
-    // The reply keeps the beat's last tick, so that a round trip fits into one trip time.
+    // A beat of the root arrives at the party, which replies to it while it lives; answers whether it
+    // does. The reply keeps the beat's last tick, so that a round trip fits into one trip time.
     fn hear(&mut self, clock: u32, beat: Beat, place: usize) -> bool
         ensures answer { result ≡ live self.old.own.standing }
         ensures after { self.new ≡ hears_as self.old.own.standing clock place beat.last self.old }
@@ -48,7 +48,8 @@ impl Party {
         }
     }
 
-    // A beat of the party arrives at a running root. Struck comes first: a late beat never enrols such a party again.
+    // A beat of the party arrives at a running root. Struck comes first: a late beat never enrols
+    // such a party again.
     fn answer(&mut self, parting: bool)
         ensures { self.new ≡ answers parting self.old }
     {
@@ -64,7 +65,7 @@ impl Party {
         }
     }
 
-    // Ends a party that is joining, in or leaving; false where it is not.
+    /// Ends a party that is joining, in or leaving; false where it is not.
     pub fn crash(&mut self, clock: u32) -> bool
         ensures answer { result ≡ live self.old.own.standing }
         ensures after { self.new ≡ crashes clock self.old }
@@ -78,7 +79,8 @@ impl Party {
         }
     }
 
-    // The end of a round as the root notes it; no run comes near the number at which the count stays.
+    /// The end of a round as the root notes it; the count of misses stays at the largest number, which
+    /// no run comes near.
     pub fn miss(&mut self)
         ensures { self.new ≡ missed_to 4294967295 self.old }
     {
@@ -91,7 +93,8 @@ impl Party {
         }
     }
 
-    // The root's beat goes out, where the party is on the roll; answers whether it did. A new round begins unheard.
+    /// The root's beat goes out, where the party is on the roll; answers whether it did. A new round
+    /// begins unheard.
     pub fn send(&mut self, last: u32, place: usize) -> bool
         ensures answer { result ≡ on_roll self.old.note.roll }
         ensures after { self.new ≡ sends last place self.old }
@@ -106,15 +109,16 @@ impl Party {
         }
     }
 
-    // On the roll, and silent for all the rounds of the pace.
+    /// On the roll, and silent for all the rounds of the pace.
     pub fn has_missed_all(&self, rounds: u32) -> bool
         ensures { result ≡ missed_all rounds self.now }
     {
         self.note.roll == Roll::On && self.note.misses == rounds
     }
 
-    // The party's timer; answers what it tells, if anything. Patience comes first: a party that ends sends nothing.
-    // `last` is the last tick of a joining beat that goes out.
+    /// The party's timer; answers what it tells, if anything. Patience comes first: a party that ends
+    /// sends nothing. `last` is the last tick of a joining beat that goes out, `place` the log place of
+    /// its sending.
     pub fn time(
         &mut self,
         clock: u32,
@@ -123,7 +127,8 @@ impl Party {
         last: u32,
         place: usize,
     ) -> Option<HappeningKind>
-        ensures answer { result ≡ timer_word self.old.own.standing clock patience limits.tmin self.old.own.since }
+        ensures answer { result
+            ≡ timer_word self.old.own.standing clock patience limits.tmin self.old.own.since }
         ensures after { self.new ≡ times clock patience limits.tmin last place self.old }
     {
         let silent = clock.saturating_sub(self.own.since);
@@ -144,14 +149,14 @@ impl Party {
         }
     }
 
-    // Joining, in or leaving.
+    /// Joining, in or leaving.
     pub fn is_live(&self) -> bool
         ensures { result ≡ live self.now.own.standing }
     {
         matches!(self.own.standing, Standing::Live(_))
     }
 
-    // The beat on a leg, by the leg's number.
+    /// The beat on a leg, by the leg's number; none on any other.
     pub fn on_leg(&self, leg: u8) -> Option<Beat>
         ensures { result ≡ on_leg leg self.now }
     {
@@ -163,7 +168,7 @@ impl Party {
         }
     }
 
-    // On any other number nothing is taken off; calls ask for the leg first.
+    /// Takes the beat off a leg; on any other number nothing is taken off.
     pub fn take_off(&mut self, leg: u8)
         ensures { self.new ≡ off_leg leg self.old }
     {
@@ -175,7 +180,8 @@ impl Party {
         }
     }
 
-    // The beat arrives from its leg: at the party from leg 1, at the root from legs 2 and 3. A root that has ended does nothing more.
+    /// The beat arrives from its leg: at the party from leg 1, at the root from legs 2 and 3. A root
+    /// that has ended does nothing more. `place` is the log place of the party's reply.
     pub fn arrive(&mut self, clock: u32, root: Root, leg: u8, beat: Beat, place: usize)
         ensures { self.new ≡ arrives clock root leg beat place self.old }
     {
@@ -189,7 +195,7 @@ impl Party {
         }
     }
 
-    // An outside party becomes joining, and its beat goes out.
+    /// An outside party becomes joining, and its beat goes out.
     pub fn join(&mut self, clock: u32, last: u32, place: usize)
         ensures { self.new ≡ joined clock last place self.old }
     {
@@ -200,7 +206,7 @@ impl Party {
         self.legs.entry = Some(Beat::new(last, false, place));
     }
 
-    // A beat on a leg has come to its last tick.
+    /// Whether a beat on a leg has come to its last tick.
     pub fn is_due(&self, clock: u32) -> bool
         ensures { result ≡ due clock self.now }
     {

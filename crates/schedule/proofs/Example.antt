@@ -2,9 +2,9 @@
 use Rattle.std.proofs.Common.{◌≡◌, codes, decimal, refl, arith}
 use Rattle.std.proofs.lemmas.Fmt.{decimal_digit, decimal-digits_of}
 use Rattle.schedule.specs.Cuts.{lines_in, words_in}
-use Rattle.schedule.specs.Words.{named, number, group_word, pace_word, order_word, only}
-use Rattle.schedule.specs.Records.{due, due_if, over, start_behind, order_behind, start_in, order_in}
-use Rattle.schedule.specs.Texts.{orders_from, lines_from}
+use Rattle.schedule.specs.Words.{is_name, number_word, group_word, pace_word, order_word, only}
+use Rattle.schedule.specs.Records.{next_word, byte_if, no_words, start_behind, order_behind, start_in, order_in}
+use Rattle.schedule.specs.Texts.{order_lines_from, start_lines_from}
 use Rattle.schedule.specs.Notices.{notice_line}
 use Rattle.schedule.specs.Example.{TextsByHand}
 
@@ -33,7 +33,7 @@ sixteen : decimal 16 ≡ codes "16"
 sixteen = decimal-digits_of 16 (omega arith) (omega arith)
 
 pub by_hand : TextsByHand
-unfolding lines_in words_in named number group_word pace_word order_word only due due_if over start_behind order_behind start_in order_in orders_from lines_from notice_line
+unfolding lines_in words_in is_name number_word group_word pace_word order_word only next_word byte_if no_words start_behind order_behind start_in order_in order_lines_from start_lines_from notice_line
 by_hand = record {
   each_kind_read = λ a b c d e f. refl;
   closed_read = refl;

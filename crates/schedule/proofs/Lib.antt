@@ -1,9 +1,14 @@
+mod Complained
 mod Example
+mod Explained
 mod Filing
 mod Fitting
 mod Lengths
+mod Mapped
+mod Misplaced
 mod Numbers
 mod Pieces
+mod Placing
 mod Rendered
 mod Taking
 mod Walks

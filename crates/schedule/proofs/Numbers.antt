@@ -7,7 +7,7 @@ use Rattle.std.proofs.lemmas.Bool.Decides.{nat_tests}
 use Rattle.text.specs.Numeral.{read_on}
 use Rattle.schedule.specs.declared.complaint.Cause.{Cause}
 use Rattle.schedule.specs.declared.complaint.Cause.TheVariants.{NotANumber, NumberTooLarge}
-use Rattle.schedule.specs.Words.{number}
+use Rattle.schedule.specs.Words.{number_word}
 
 -- the end of a number that has come to n
 abbrev pub closed : ℕ → ℕ → Result ℕ Cause
@@ -25,8 +25,8 @@ plain max n k (c ∷ cs) e =
     elim (is_ascii_digit c) as (λ t. cond t (counted max (min (10 * k + (c - 48)) (max + 1)) cs) (Err NotANumber) ≡ cond (t && all_ascii_digits cs) (closed max (read_on (10 * n + (c - 48)) cs)) (Err NotANumber))
     [ true ↦ plain max (10 * n + (c - 48)) (min (10 * k + (c - 48)) (max + 1)) cs (omega arith) | false ↦ refl ]
 
-pub begun : (max : ℕ) (w : List ℕ) → number max w ≡ counted max 0 w
-unfolding number
+pub begun : (max : ℕ) (w : List ℕ) → number_word max w ≡ counted max 0 w
+unfolding number_word
 begun max w = sym (plain max 0 0 w (omega arith))
 
 module _ (max : ℕ) (w : List ℕ) (n i : ℕ) (r : Result ℕ Cause) (e : r ≡ counted max n (drop i w)) where
@@ -44,8 +44,8 @@ module _ (max : ℕ) (w : List ℕ) (n i : ℕ) (r : Result ℕ Cause) (e : r �
 closed_le : (max m n : ℕ) → closed max m ≡ Ok n → n ≤ max
 closed_le max m n e = grind (arith, nat_tests)
 
-pub number_le : (max : ℕ) (w : List ℕ) (n : ℕ) → number max w ≡ Ok n → n ≤ max
-unfolding number
+pub number_le : (max : ℕ) (w : List ℕ) (n : ℕ) → number_word max w ≡ Ok n → n ≤ max
+unfolding number_word
 number_le max w n e =
     (elim (all_ascii_digits w) as (λ t. cond t (closed max (read_on 0 w)) (Err NotANumber) ≡ Ok n → n ≤ max)
     [ true ↦ closed_le max (read_on 0 w) n | false ↦ λ z. absurd (let y : ◌≡◌ {A = ℕ} 0 1 = cc in omega arith) ]) e

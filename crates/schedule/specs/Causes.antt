@@ -7,18 +7,18 @@ use Rattle.schedule.specs.declared.complaint.Cause.TheVariants.{MissingWord, Unk
 
 -- the question that is answered no: 12, is there room; 14, is the tick at least the one before;
 -- 15, is the record whole; 16, are its words and numbers known values
-abbrev pub cause_number : Cause → ℕ
-cause_number MissingWord = 15
-cause_number WordTooMany = 15
-cause_number NoStart = 15
-cause_number UnknownWord = 16
-cause_number NotANumber = 16
-cause_number NumberTooLarge = 16
-cause_number NoSlot = 12
-cause_number NoRoom = 12
-cause_number EarlierTick = 14
+abbrev pub complaint_number : Cause → ℕ
+complaint_number MissingWord = 15
+complaint_number WordTooMany = 15
+complaint_number NoStart = 15
+complaint_number UnknownWord = 16
+complaint_number NotANumber = 16
+complaint_number NumberTooLarge = 16
+complaint_number NoSlot = 12
+complaint_number NoRoom = 12
+complaint_number EarlierTick = 14
 
 -- why the list refuses an order
-abbrev pub refused : Refusal → Cause
-refused SlotsTaken = NoSlot
-refused Earlier = EarlierTick
+abbrev pub refusal_cause : Refusal → Cause
+refusal_cause SlotsTaken = NoSlot
+refusal_cause Earlier = EarlierTick

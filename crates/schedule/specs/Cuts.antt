@@ -1,5 +1,6 @@
 -- A text in pieces.
-use Rattle.std.specs.Prelude.{ℕ, Bool, cond, ◌||◌, List, [], ◌∷◌, ◌==◌}
+use Rattle.std.specs.Prelude.{ℕ, Bool, if◌then◌else◌, ◌||◌, List, [], ◌∷◌, length, filter, ◌==◌, nat_lt}
+use Rattle.std.specs.List.{before_first}
 
 -- the byte that ends a line
 abbrev pub ends_line : ℕ → Bool
@@ -13,45 +14,24 @@ begins_comment b = b == 0x23
 abbrev pub is_blank : ℕ → Bool
 is_blank b = b == 0x20 || (b == 0x09 || b == 0x0D)
 
--- the bytes before the first that m picks
-abbrev pub until : (ℕ → Bool) → List ℕ → List ℕ
-until m [] = []
-until m (b ∷ bs) = cond (m b) [] (b ∷ until m bs)
-
--- the bytes behind it
-abbrev pub past : (ℕ → Bool) → List ℕ → List ℕ
-past m [] = []
-past m (b ∷ bs) = cond (m b) bs (past m bs)
-
 -- a byte more in front of the first piece
-abbrev pub onto : ℕ → List (List ℕ) → List (List ℕ)
-onto b [] = (b ∷ []) ∷ []
-onto b (p ∷ ps) = (b ∷ p) ∷ ps
+abbrev pub with_first_byte : ℕ → List (List ℕ) → List (List ℕ)
+with_first_byte b [] = (b ∷ []) ∷ []
+with_first_byte b (p ∷ ps) = (b ∷ p) ∷ ps
 
 -- the pieces that the bytes picked by m end; the last one may lack its end
 abbrev pub pieces : (ℕ → Bool) → List ℕ → List (List ℕ)
 pieces m [] = []
-pieces m (b ∷ bs) = cond (m b) ([] ∷ pieces m bs) (onto b (pieces m bs))
-
--- the pieces that are not empty
-abbrev pub filled : List (List ℕ) → List (List ℕ)
-filled [] = []
-filled ([] ∷ ps) = filled ps
-filled ((b ∷ p) ∷ ps) = (b ∷ p) ∷ filled ps
+pieces m (b ∷ bs) = if m b then [] ∷ pieces m bs else with_first_byte b (pieces m bs)
 
 -- the lines of a text
 unfoldable pub lines_in : List ℕ → List (List ℕ)
 lines_in text = pieces ends_line text
 
--- what stands between blanks
+-- what stands between blanks: the pieces that are not empty
 unfoldable pub words_in : List ℕ → List (List ℕ)
-words_in bs = filled (pieces is_blank bs)
+words_in bs = filter (λ p. nat_lt 0 (length p)) (pieces is_blank bs)
 
 -- the words of a line, up to its comment
 abbrev pub line_words : List ℕ → List (List ℕ)
-line_words line = words_in (until begins_comment line)
-
--- the pieces but the first
-abbrev pub behind : List (List ℕ) → List (List ℕ)
-behind [] = []
-behind (p ∷ ps) = ps
+line_words line = words_in (before_first begins_comment line)

@@ -5,13 +5,13 @@ use Rattle.orders.specs.declared.order.Order.{Order}
 use Rattle.orders.specs.declared.order.OrderKind.TheVariants.{Deliver, Lose, Crash, Join, Leave, Wait}
 use Rattle.orders.specs.declared.start.PaceKind.TheVariants.{Halving, TwoPhase}
 use Rattle.schedule.specs.declared.complaint.Complaint.{Complaint}
-use Rattle.schedule.specs.Composing.{composed}
+use Rattle.schedule.specs.Composing.{compose_answer}
 use Rattle.schedule.specs.Notices.{notice_line}
-use Rattle.schedule.specs.Texts.{ended, reads}
+use Rattle.schedule.specs.Texts.{reading_end, reading_of}
 
 -- a dynamic group, and an order of each kind
-abbrev pub each_kind : List ℕ
-each_kind =
+abbrev pub each_kind_text : List ℕ
+each_kind_text =
     codes "# who comes and goes\n"
     ++ codes "dynamic 3 halving 2 9 cap 64\n"
     ++ codes "\n"
@@ -22,8 +22,8 @@ each_kind =
     ++ codes "10 crash 0\n"
     ++ codes "20 wait"
 
-abbrev pub each_order : List Order
-each_order =
+abbrev pub each_kind_orders : List Order
+each_kind_orders =
     record { kind = Join; party = 1; leg = 0; tick = 0 }
     ∷ record { kind = Deliver; party = 1; leg = 3; tick = 2 }
     ∷ record { kind = Lose; party = 2; leg = 1; tick = 2 }
@@ -33,26 +33,35 @@ each_order =
     ∷ []
 
 -- what is told of a complaint
-abbrev pub told : Result ℕ Complaint → List ℕ
-told (Ok size) = []
-told (Err c) = notice_line c
+abbrev pub complaint_line : Result ℕ Complaint → List ℕ
+complaint_line (Ok size) = []
+complaint_line (Err c) = notice_line c
 
--- a text gives that line, where there are two slots for its orders and 23 bytes for the file, as a start and one order have
+-- a text gives that line, where there are two slots for its orders and 23 bytes for the file, as a
+-- start and one order have
 abbrev pub Tells : List ℕ → List ℕ → Type 0
-Tells text line = (a b : Order) → told (composed (reads text (a ∷ b ∷ [])) 23) ≡ line
+Tells text line =
+    (a b : Order) → complaint_line (compose_answer (reading_of text (a ∷ b ∷ [])) 23) ≡ line
 
 abbrev pub closed_start : List ℕ
 closed_start = codes "closed 1 two-phase 1 10 cap 64\n"
 
 pub record TextsByHand : Type 0 where
   pub each_kind_read :
-      (a b c d e f : Order) → reads each_kind (a ∷ b ∷ c ∷ d ∷ e ∷ f ∷ [])
-      ≡ ended (Ok record { kind = Dynamic; parties = 3; tmin = 2; tmax = 9; pace = Halving; cap = 64 }) 9 each_order []
+      (a b c d e f : Order) → reading_of each_kind_text (a ∷ b ∷ c ∷ d ∷ e ∷ f ∷ [])
+      ≡ reading_end
+      (Ok record { kind = Dynamic; parties = 3; tmin = 2; tmax = 9; pace = Halving; cap = 64 })
+      9 each_kind_orders []
   pub closed_read :
-      reads closed_start [] ≡ ended (Ok record { kind = Closed; parties = 1; tmin = 1; tmax = 10; pace = TwoPhase; cap = 64 }) 1 [] []
+      reading_of closed_start []
+      ≡ reading_end
+      (Ok record { kind = Closed; parties = 1; tmin = 1; tmax = 10; pace = TwoPhase; cap = 64 })
+      1 [] []
   pub expanding_read :
-      reads (codes "expanding 7 halving 3 4 cap 5") []
-      ≡ ended (Ok record { kind = Expanding; parties = 7; tmin = 3; tmax = 4; pace = Halving; cap = 5 }) 1 [] []
+      reading_of (codes "expanding 7 halving 3 4 cap 5") []
+      ≡ reading_end
+      (Ok record { kind = Expanding; parties = 7; tmin = 3; tmax = 4; pace = Halving; cap = 5 })
+      1 [] []
   pub no_start :
       Tells (codes "# nothing\n")
       (codes "refused line 2 number 15: no start\n")

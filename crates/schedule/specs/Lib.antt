@@ -7,4 +7,8 @@ pub mod Steps
 pub mod Composing
 pub mod Rendering
 pub mod Notices
+pub mod Maps
+pub mod Places
+pub mod Misfits
+pub mod MisfitNotices
 pub mod Example

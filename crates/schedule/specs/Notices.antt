@@ -3,7 +3,7 @@ use Rattle.std.specs.Prelude.{ℕ, List, ◌++◌, codes, decimal}
 use Rattle.schedule.specs.declared.complaint.Cause.{Cause}
 use Rattle.schedule.specs.declared.complaint.Cause.TheVariants.{MissingWord, UnknownWord, NotANumber, NumberTooLarge, WordTooMany, EarlierTick, NoSlot, NoStart, NoRoom}
 use Rattle.schedule.specs.declared.complaint.Complaint.{Complaint}
-use Rattle.schedule.specs.Causes.{cause_number}
+use Rattle.schedule.specs.Causes.{complaint_number}
 
 abbrev pub cause_words : Cause → List ℕ
 cause_words MissingWord = codes "a word is missing"
@@ -18,5 +18,5 @@ cause_words NoRoom = codes "the order file is longer than the output"
 
 unfoldable pub notice_line : Complaint → List ℕ
 notice_line c =
-    codes "refused line " ++ decimal c.line ++ codes " number " ++ decimal (cause_number c.cause) ++ codes ": "
-    ++ cause_words c.cause ++ codes "\n"
+    codes "refused line " ++ decimal c.line ++ codes " number " ++ decimal (complaint_number c.cause)
+    ++ codes ": " ++ cause_words c.cause ++ codes "\n"

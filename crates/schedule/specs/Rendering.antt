@@ -1,6 +1,6 @@
 -- A start and orders as a text, and that such a text reads as just those.
 use Rattle.std.specs.Prelude.{◌≡◌, ℕ, ◌+◌, ◌≤◌, Bool, true, false, List, [], ◌∷◌, ◌++◌, length, drop, Ok, codes, decimal}
-use Rattle.std.specs.List.{flat_map}
+use Rattle.std.specs.List.{flat_map, join_with_byte}
 use Rattle.protocol.specs.declared.kind.GroupKind.{GroupKind}
 use Rattle.protocol.specs.declared.kind.GroupKind.TheVariants.{Closed, Expanding, Dynamic}
 use Rattle.orders.specs.declared.order.Order.{Order}
@@ -11,7 +11,7 @@ use Rattle.orders.specs.declared.start.PaceKind.TheVariants.{Halving, TwoPhase}
 use Rattle.orders.specs.declared.start.Start.{Start}
 use Rattle.orders.specs.Loading.{StartFits, InOrder}
 use Rattle.schedule.specs.Records.{has_party, has_leg}
-use Rattle.schedule.specs.Texts.{ended, reads}
+use Rattle.schedule.specs.Texts.{reading_end, reading_of}
 
 abbrev pub group_name : GroupKind → List ℕ
 group_name Closed = codes "closed"
@@ -36,34 +36,33 @@ start_words s =
     ∷ codes "cap" ∷ decimal s.cap ∷ []
 
 -- a number in front of other words, where the order names it
-abbrev pub named_if : Bool → ℕ → List (List ℕ) → List (List ℕ)
-named_if true n ws = decimal n ∷ ws
-named_if false n ws = ws
+abbrev pub number_if : Bool → ℕ → List (List ℕ) → List (List ℕ)
+number_if true n ws = decimal n ∷ ws
+number_if false n ws = ws
 
 abbrev pub order_words : Order → List (List ℕ)
 order_words o =
-    decimal o.tick ∷ order_name o.kind ∷ named_if (has_party o.kind) o.party (named_if (has_leg o.kind) o.leg [])
+    decimal o.tick ∷ order_name o.kind
+    ∷ number_if (has_party o.kind) o.party (number_if (has_leg o.kind) o.leg [])
 
--- words with a space between them
-abbrev pub spaced : List (List ℕ) → List ℕ
-spaced [] = []
-spaced (w ∷ []) = w
-spaced (w ∷ v ∷ ws) = w ++ (0x20 ∷ spaced (v ∷ ws))
-
+-- words with a space between them, and a line's end
 abbrev pub text_line : List (List ℕ) → List ℕ
-text_line ws = spaced ws ++ (0x0A ∷ [])
+text_line ws = join_with_byte 0x20 ws ++ (0x0A ∷ [])
 
 -- a line for the start, and one for each order
-abbrev pub rendered : Start → List Order → List ℕ
-rendered s os = text_line (start_words s) ++ flat_map (λ o. text_line (order_words o)) os
+abbrev pub text_of : Start → List Order → List ℕ
+text_of s os = text_line (start_words s) ++ flat_map (λ o. text_line (order_words o)) os
 
 -- what an order does not name is 0
 abbrev pub Named : List Order → Type 0
 Named [] = Unit {0}
-Named (o ∷ os) = (has_party o.kind ≡ false → o.party ≡ 0) × (has_leg o.kind ≡ false → o.leg ≡ 0) × Named os
+Named (o ∷ os) =
+    (has_party o.kind ≡ false → o.party ≡ 0) × (has_leg o.kind ≡ false → o.leg ≡ 0) × Named os
 
 -- what was rendered reads as itself, to its last line
 abbrev pub RenderedTextsRead : Type 0
 RenderedTextsRead =
-    (s : Start) (os slots : List Order) → StartFits s → InOrder 0 os → Named os → length os ≤ length slots
-    → reads (rendered s os) slots ≡ ended (Ok s) (1 + length os) os (drop (length os) slots)
+    (s : Start) (os slots : List Order)
+    → StartFits s → InOrder 0 os → Named os → length os ≤ length slots
+    → reading_of (text_of s os) slots
+    ≡ reading_end (Ok s) (1 + length os) os (drop (length os) slots)

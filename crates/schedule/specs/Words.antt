@@ -1,5 +1,5 @@
 -- What a word reads as.
-use Rattle.std.specs.Prelude.{ℕ, Bool, cond, List, Ok, Err, codes, Result, nat_le}
+use Rattle.std.specs.Prelude.{ℕ, Bool, if◌then◌else◌, List, Ok, Err, codes, Result, nat_le}
 use Rattle.std.specs.Str.{all_ascii_digits, bytes_eq}
 use Rattle.text.specs.Numeral.{read_on}
 use Rattle.protocol.specs.declared.kind.GroupKind.{GroupKind}
@@ -12,34 +12,36 @@ use Rattle.schedule.specs.declared.complaint.Cause.{Cause}
 use Rattle.schedule.specs.declared.complaint.Cause.TheVariants.{UnknownWord, NotANumber, NumberTooLarge}
 
 -- whether a word is the name of something
-unfoldable pub named : List ℕ → List ℕ → Bool
-named w name = bytes_eq w name
+unfoldable pub is_name : List ℕ → List ℕ → Bool
+is_name w name = bytes_eq w name
 
 -- a number of digits alone, and max at most
-unfoldable pub number : ℕ → List ℕ → Result ℕ Cause
-number max w =
-    cond (all_ascii_digits w) (cond (nat_le (read_on 0 w) max) (Ok (read_on 0 w)) (Err NumberTooLarge)) (Err NotANumber)
+unfoldable pub number_word : ℕ → List ℕ → Result ℕ Cause
+number_word max w =
+    if all_ascii_digits w
+    then (if nat_le (read_on 0 w) max then Ok (read_on 0 w) else Err NumberTooLarge)
+    else Err NotANumber
 
 unfoldable pub group_word : List ℕ → Result GroupKind Cause
 group_word w =
-    cond (named w (codes "closed")) (Ok Closed)
-    (cond (named w (codes "expanding")) (Ok Expanding)
-    (cond (named w (codes "dynamic")) (Ok Dynamic) (Err UnknownWord)))
+    if is_name w (codes "closed") then Ok Closed else
+    (if is_name w (codes "expanding") then Ok Expanding else
+    (if is_name w (codes "dynamic") then Ok Dynamic else Err UnknownWord))
 
 unfoldable pub pace_word : List ℕ → Result PaceKind Cause
 pace_word w =
-    cond (named w (codes "halving")) (Ok Halving)
-    (cond (named w (codes "two-phase")) (Ok TwoPhase) (Err UnknownWord))
+    if is_name w (codes "halving") then Ok Halving else
+    (if is_name w (codes "two-phase") then Ok TwoPhase else Err UnknownWord)
 
 unfoldable pub order_word : List ℕ → Result OrderKind Cause
 order_word w =
-    cond (named w (codes "deliver")) (Ok Deliver)
-    (cond (named w (codes "lose")) (Ok Lose)
-    (cond (named w (codes "crash")) (Ok Crash)
-    (cond (named w (codes "join")) (Ok Join)
-    (cond (named w (codes "leave")) (Ok Leave)
-    (cond (named w (codes "wait")) (Ok Wait) (Err UnknownWord))))))
+    if is_name w (codes "deliver") then Ok Deliver else
+    (if is_name w (codes "lose") then Ok Lose else
+    (if is_name w (codes "crash") then Ok Crash else
+    (if is_name w (codes "join") then Ok Join else
+    (if is_name w (codes "leave") then Ok Leave else
+    (if is_name w (codes "wait") then Ok Wait else Err UnknownWord)))))
 
 -- a word that has to be just this one
 unfoldable pub only : List ℕ → List ℕ → Result (Unit {0}) Cause
-only name w = cond (named w name) (Ok tt) (Err UnknownWord)
+only name w = if is_name w name then Ok tt else Err UnknownWord

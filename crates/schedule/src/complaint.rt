@@ -1,35 +1,36 @@
 // What can be wrong with a text.
 ghost use Rattle.std.specs.Prelude.{◌≡◌};
-ghost use Rattle.schedule.specs.Causes.{cause_number, refused};
+ghost use Rattle.schedule.specs.Causes.{complaint_number, refusal_cause};
 
 use slots::refusal::Refusal;
 
+/// What is wrong with a line, or with the text as a whole.
 #[derive(Clone, Copy, Debug, PartialEq, Eq)]
 pub enum Cause {
-    // the line ends where a word is due
+    /// The line ends where a word is due.
     MissingWord,
-    // a word that means nothing in its place
+    /// A word means nothing in its place.
     UnknownWord,
-    // a number is due, and the word has a byte that is no digit
+    /// A number is due, and the word has a byte that is no digit.
     NotANumber,
-    // the number is above the largest that its place takes
+    /// The number is above the largest that its place takes.
     NumberTooLarge,
-    // the line goes on where it should end
+    /// The line goes on where it should end.
     WordTooMany,
-    // the order's tick is before that of the order in front of it
+    /// The order's tick is before that of the order in front of it.
     EarlierTick,
-    // every slot for orders is taken
+    /// Every slot for orders is taken.
     NoSlot,
-    // no line has a word
+    /// No line has a word.
     NoStart,
-    // the order file is longer than the output
+    /// The order file is longer than the output.
     NoRoom,
 }
 
 impl Cause {
-    // The number of the question that was answered no. Not a `From`, which would not say so.
+    /// The number of the question that was answered no.
     pub fn number(self) -> u8
-        ensures { result ≡ cause_number self }
+        ensures { result ≡ complaint_number self }
     {
         match self {
             Cause::MissingWord | Cause::WordTooMany | Cause::NoStart => 15,
@@ -40,15 +41,16 @@ impl Cause {
     }
 }
 
-// The first line that is not taken, counted from 1, and why.
+/// The first thing that is wrong with a text.
 #[derive(Clone, Copy, Debug, PartialEq, Eq)]
 pub struct Complaint {
+    /// Counted from 1. What the text lacks as a whole is told of the line behind its last.
     pub line: usize,
     pub cause: Cause,
 }
 
 impl From<Refusal> for Cause {
-    ghost from_gives = { λ x c. c ≡ refused x };
+    ghost from_gives = { λ x c. c ≡ refusal_cause x };
 
     fn from(refusal: Refusal) -> Cause {
         match refusal {

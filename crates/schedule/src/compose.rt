@@ -1,7 +1,7 @@
-// The one call: a text in, an order file out.
+// A text in, an order file out.
 ghost use Rattle.std.specs.Prelude.{◌≡◌, ◌≤◌, ◌++◌, length, take, drop, IfOk};
-ghost use Rattle.schedule.specs.Texts.{reads};
-ghost use Rattle.schedule.specs.Composing.{composed, output, LoadsAs};
+ghost use Rattle.schedule.specs.Texts.{reading_of};
+ghost use Rattle.schedule.specs.Composing.{compose_answer, output, LoadsAs};
 ghost use Rattle.schedule.specs.Example.{TextsByHand};
 ghost use Rattle.schedule.specs.Rendering.{RenderedTextsRead};
 
@@ -12,13 +12,17 @@ use crate::write::write;
 use orders::order::Order;
 use slots::SlotList;
 
-// Reads the whole text, its orders into `order_slots`, and only then writes the order file into `out`. Answers how many bytes it has.
+/// Reads a whole text, its orders into `order_slots`, and only then writes the order file into
+/// `out`. Answers how many bytes the file has; later bytes keep what they held.
 pub fn compose(text: &[u8], order_slots: &mut [Order], out: &mut [u8]) -> Result<usize, Complaint>
-    ensures answer { result ≡ composed (reads text.now order_slots.old) (length out.old) }
-    ensures output { out.new ≡ output (reads text.now order_slots.old) out.old }
-    ensures slots { order_slots.new ≡ (reads text.now order_slots.old).items ++ drop (length (reads text.now order_slots.old).items) order_slots.old }
+    ensures answer { result
+        ≡ compose_answer (reading_of text.now order_slots.old) (length out.old) }
+    ensures output { out.new ≡ output (reading_of text.now order_slots.old) out.old }
+    ensures slots { order_slots.new ≡ (reading_of text.now order_slots.old).items
+        ++ drop (length (reading_of text.now order_slots.old).items) order_slots.old }
     ensures within { IfOk result (λ size. size ≤ length out.new) }
-    ensures loads { IfOk result (λ size. LoadsAs (reads text.now order_slots.old) (take size out.new)) }
+    ensures loads { IfOk result
+        (λ size. LoadsAs (reading_of text.now order_slots.old) (take size out.new)) }
     ensures reads_back { RenderedTextsRead }
     ensures by_hand { TextsByHand }
 {

@@ -7,7 +7,7 @@ use orders::order::OrderKind;
 use orders::start::PaceKind;
 use protocol::kind::GroupKind;
 
-#[tactic(auto, unfolding(crate::specs::Words::group_word, crate::specs::Words::named))]
+#[tactic(auto, unfolding(crate::specs::Words::group_word, crate::specs::Words::is_name))]
 pub(crate) fn group_kind(word: &[u8]) -> Result<GroupKind, Cause>
     ensures { result ≡ group_word word.now }
 {
@@ -19,7 +19,7 @@ pub(crate) fn group_kind(word: &[u8]) -> Result<GroupKind, Cause>
     }
 }
 
-#[tactic(auto, unfolding(crate::specs::Words::pace_word, crate::specs::Words::named))]
+#[tactic(auto, unfolding(crate::specs::Words::pace_word, crate::specs::Words::is_name))]
 pub(crate) fn pace_kind(word: &[u8]) -> Result<PaceKind, Cause>
     ensures { result ≡ pace_word word.now }
 {
@@ -30,7 +30,7 @@ pub(crate) fn pace_kind(word: &[u8]) -> Result<PaceKind, Cause>
     }
 }
 
-#[tactic(auto, unfolding(crate::specs::Words::order_word, crate::specs::Words::named))]
+#[tactic(auto, unfolding(crate::specs::Words::order_word, crate::specs::Words::is_name))]
 pub(crate) fn order_kind(word: &[u8]) -> Result<OrderKind, Cause>
     ensures { result ≡ order_word word.now }
 {
@@ -46,7 +46,7 @@ pub(crate) fn order_kind(word: &[u8]) -> Result<OrderKind, Cause>
 }
 
 // The word in front of the cap.
-#[tactic(auto, unfolding(crate::specs::Words::only, crate::specs::Words::named))]
+#[tactic(auto, unfolding(crate::specs::Words::only, crate::specs::Words::is_name))]
 pub(crate) fn cap_word(word: &[u8]) -> Result<(), Cause>
     ensures { result ≡ only (codes "cap") word.now }
 {

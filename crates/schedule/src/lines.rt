@@ -36,7 +36,11 @@ impl<'a> Lines<'a> {
 impl<'a> Iterator for Lines<'a> {
     type Item = &'a [u8];
 
-    ghost next_gives = { λ before line after. MatchOption line ((lines_in before.rest.now ≡ []) × (lines_in after.rest.now ≡ []) × (after.number ≡ before.number)) (λ line. (lines_in before.rest.now ≡ line.now ∷ lines_in after.rest.now) × (after.number ≡ before.number + 1)) };
+    ghost next_gives = { λ before line after. MatchOption line
+        ((lines_in before.rest.now ≡ [])
+        × (lines_in after.rest.now ≡ []) × (after.number ≡ before.number))
+        (λ line. (lines_in before.rest.now ≡ line.now ∷ lines_in after.rest.now)
+        × (after.number ≡ before.number + 1)) };
 
     ghost remaining = { item_count (λ lines. lines_in lines.rest.now) };
 

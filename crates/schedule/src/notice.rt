@@ -1,15 +1,15 @@
 // A complaint in words.
 ghost use Rattle.std.specs.Prelude.{◌≡◌, ◌≤◌, length};
-ghost use Rattle.text.specs.Lines.{padded};
+ghost use Rattle.text.specs.Lines.{padded_text};
 ghost use Rattle.schedule.specs.Notices.{cause_words, notice_line};
 
 use crate::complaint::{Cause, Complaint};
 use text::Line;
 use text::line_bytes::LineBytes;
 
-// The line that tells a planner what is wrong, and where: its bytes with their length, as the lines of a played file are told.
+/// The line that tells a planner what is wrong, and where.
 pub fn notice(complaint: Complaint) -> LineBytes
-    ensures bytes { result.bytes ≡ padded (notice_line complaint) }
+    ensures bytes { result.bytes ≡ padded_text (notice_line complaint) }
     ensures len { result.len ≡ length (notice_line complaint) }
     ensures within { result.len ≤ 128 }
 {
@@ -30,7 +30,6 @@ fn notice_line(complaint: Complaint) -> Line
     line
 }
 
-// Not a Display, since no contract of `fmt::Write` says that a line with room takes what is written.
 fn cause_words(cause: Cause) -> &'static [u8]
     ensures { result.now ≡ cause_words cause }
 {

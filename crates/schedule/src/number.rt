@@ -1,12 +1,12 @@
 // A number written in decimal.
 ghost use Rattle.std.specs.Prelude.{◌≡◌};
-ghost use Rattle.schedule.specs.Words.{number};
+ghost use Rattle.schedule.specs.Words.{number_word};
 
 use crate::complaint::Cause;
 
 // The number that a word writes, which is `max` at most.
 pub(crate) fn number(word: &[u8], max: u32) -> Result<u32, Cause>
-    ensures { result ≡ number max word.now }
+    ensures { result ≡ number_word max word.now }
 {
     let over = max as u64 + 1;
     let mut value: u64 = 0;

@@ -1,9 +1,9 @@
-// Reads a text line by line: the start first, and then the orders into a list, of which each call says that it only grows.
+// Reads a text line by line: the start first, and then the orders into a list.
 ghost use Rattle.std.specs.Prelude.{◌≡◌, List};
 ghost use Rattle.slots.specs.Slots.{items, spare, Extends};
 ghost use Rattle.schedule.specs.Cuts.{lines_in, line_words};
 ghost use Rattle.schedule.specs.Records.{start_in, order_in};
-ghost use Rattle.schedule.specs.Texts.{Reading, lines_from, orders_from, order_met};
+ghost use Rattle.schedule.specs.Texts.{Reading, start_lines_from, order_lines_from, order_reading};
 ghost use Rattle.schedule.specs.Steps.{at_line, past_start, past_line, past_orders};
 
 use crate::complaint::{Cause, Complaint};
@@ -15,7 +15,9 @@ use slots::SlotList;
 
 // The first line with words is the start.
 pub(crate) fn read_start(lines: &mut Lines<'_>) -> Result<Start, Complaint>
-    ensures { (xs ys : List Order) → lines_from lines.old.number (lines_in lines.old.rest.now) xs ys ≡ past_start result lines.new.number (lines_in lines.new.rest.now) xs ys }
+    ensures { (xs ys : List Order)
+        → start_lines_from lines.old.number (lines_in lines.old.rest.now) xs ys
+        ≡ past_start result lines.new.number (lines_in lines.new.rest.now) xs ys }
 {
     while let Some(text) = lines.next() {
         if let Some(start) = start_at(text, lines.number())? {
@@ -40,7 +42,10 @@ pub(crate) fn read_orders(
     lines: &mut Lines<'_>,
     list: &mut SlotList<'_, Order>,
 ) -> Result<(), Complaint>
-    ensures read { (s : Start) → orders_from s lines.old.number (lines_in lines.old.rest.now) (items list.old) (spare list.old) ≡ past_orders s result lines.new.number (items list.new) (spare list.new) }
+    ensures read { (s : Start)
+        → order_lines_from s lines.old.number (lines_in lines.old.rest.now)
+        (items list.old) (spare list.old)
+        ≡ past_orders s result lines.new.number (items list.new) (spare list.new) }
     ensures extends { Extends list.old list.new }
 {
     while let Some(text) = lines.next() {
@@ -51,7 +56,9 @@ pub(crate) fn read_orders(
 
 // Appends the order that a line holds, if any.
 fn add_order(text: &[u8], line: usize, list: &mut SlotList<'_, Order>) -> Result<(), Complaint>
-    ensures met { (more : List Order → List Order → Reading) → order_met line more (items list.old) (spare list.old) (order_in (line_words text.now)) ≡ past_line result more (items list.new) (spare list.new) }
+    ensures met { (more : List Order → List Order → Reading)
+        → order_reading line more (items list.old) (spare list.old) (order_in (line_words text.now))
+        ≡ past_line result more (items list.new) (spare list.new) }
     ensures extends { Extends list.old list.new }
 {
     if let Some(order) = order_in(text).map_err(|cause| Complaint { line, cause })? {

@@ -12,7 +12,6 @@ use orders::start::Start;
 use protocol::kind::GroupKind;
 
 // The start that a line holds; none in a line without words.
-// Not one function with `order_in`: they share only what a line without words holds.
 #[tactic(auto, unfolding(crate::specs::Records::start_in))]
 pub(crate) fn start_in(line: &[u8]) -> Result<Option<Start>, Cause>
     ensures { result ≡ start_in (line_words line.now) }

@@ -1,9 +1,9 @@
 // Writes an order file into lent bytes.
-ghost use Rattle.std.specs.Prelude.{◌≡◌, ◌+◌, ◌*◌, ◌≤◌, leb, length, if◌then◌else◌, Some, None, nat_le};
+ghost use Rattle.std.specs.Prelude.{◌≡◌, ◌+◌, ◌*◌, ◌≤◌, length, if◌then◌else◌, Some, None, nat_le};
 ghost use Rattle.std.specs.List.{flat_map};
-ghost use Rattle.text.specs.Bytes.{placed};
+ghost use Rattle.text.specs.Bytes.{with_text_at};
 ghost use Rattle.orders.specs.Writing.{order_bytes, bytes_of_file};
-ghost use Rattle.schedule.specs.Composing.{written};
+ghost use Rattle.schedule.specs.Composing.{with_file};
 
 use orders::order::{ORDER_SIZE, Order};
 use orders::start::{START_SIZE, Start};
@@ -11,8 +11,10 @@ use text::bytes::put;
 
 // The file's size, or none where it does not fit, and then no byte is written.
 pub(crate) fn write(start: Start, orders: &[Order], out: &mut [u8]) -> Option<usize>
-    ensures answer { result ≡ (if leb (length (bytes_of_file start orders.now)) (length out.old) then Some (length (bytes_of_file start orders.now)) else None) }
-    ensures after { out.new ≡ (if leb (length (bytes_of_file start orders.now)) (length out.old) then written (bytes_of_file start orders.now) out.old else out.old) }
+    ensures answer { result ≡ (if nat_le (length (bytes_of_file start orders.now)) (length out.old)
+        then Some (length (bytes_of_file start orders.now)) else None) }
+    ensures after { out.new ≡ (if nat_le (length (bytes_of_file start orders.now)) (length out.old)
+        then with_file (bytes_of_file start orders.now) out.old else out.old) }
 {
     if !has_room(orders.len(), out.len()) {
         return None;
@@ -31,7 +33,7 @@ fn has_room(orders: usize, bytes: usize) -> bool
 // Writes the orders from a place on, and says where they end.
 fn write_orders(orders: &[Order], out: &mut [u8], from: usize) -> usize
     requires { from + 9 * length orders.now ≤ length out.old }
-    ensures after { out.new ≡ placed out.old from (flat_map order_bytes orders.now) }
+    ensures after { out.new ≡ with_text_at out.old from (flat_map order_bytes orders.now) }
     ensures end { result ≡ from + length (flat_map order_bytes orders.now) }
 {
     let mut at = from;

@@ -2,7 +2,7 @@
 use Rattle.std.proofs.Common.{◌≡◌, ℕ, ◌+◌, ◌-◌, ◌≤◌, List, [], ◌++◌, length, drop, sym, refl, ap, ◌∙◌, arith, take-append-drop}
 use Rattle.std.proofs.lemmas.List.{length-append, length-take-le, drop-drop}
 use Rattle.slots.specs.declared.SlotList.{SlotList}
-use Rattle.slots.specs.Slots.{items, spare, Appended, Extends}
+use Rattle.slots.specs.Slots.{items, spare, Appends, Extends}
 
 module _ {X : Type 0} where
   pub items_length : (l : SlotList X) → length (items l) ≡ l.len
@@ -37,16 +37,16 @@ module _ {X : Type 0} where
       }
 
   -- how many records there are after an append
-  pub len_after : (l l' : SlotList X) (rs : List X) → Appended l l' rs → l'.len ≡ l.len + length rs
+  pub len_after : (l l' : SlotList X) (rs : List X) → Appends l l' rs → l'.len ≡ l.len + length rs
   len_after l l' rs p =
-      omega (arith, items_length l, items_length l', ap length p.grown, length-append (items l) rs)
+      omega (arith, items_length l, items_length l', ap length p.records, length-append (items l) rs)
 
-  pub appended_extends : (l l' : SlotList X) (rs : List X) → Appended l l' rs → Extends l l'
+  pub appended_extends : (l l' : SlotList X) (rs : List X) → Appends l l' rs → Extends l l'
   appended_extends l l' rs p =
       let n = len_after l l' rs p in
       record {
         lent = p.lent;
         long = p.long;
         grows = omega arith;
-        later = p.rest ∙ drop-drop (length rs) l.len l.slots.now ∙ ap (λ (k : ℕ). drop k l.slots.now) (sym n);
+        later = p.spares ∙ drop-drop (length rs) l.len l.slots.now ∙ ap (λ (k : ℕ). drop k l.slots.now) (sym n);
       }

@@ -3,6 +3,6 @@ use Rattle.std.specs.Prelude.{ℕ}
 use Rattle.slots.specs.declared.refusal.Refusal.{Refusal}
 use Rattle.slots.specs.declared.refusal.Refusal.TheVariants.{NoSlot, Earlier}
 
-abbrev pub number : Refusal → ℕ
-number NoSlot = 12
-number Earlier = 14
+abbrev pub slot_refusal_number : Refusal → ℕ
+slot_refusal_number NoSlot = 12
+slot_refusal_number Earlier = 14

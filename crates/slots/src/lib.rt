@@ -7,8 +7,10 @@ pub mod list;
 pub mod refusal;
 pub mod timed;
 
-// The first `len` slots hold the records, in the order in which they were appended; the others are spare.
-// No `impl Model`: contracts name the borrow of the slots (`ghost_name`), which a view of the records would hide.
+/// A list in slots that were lent: the first slots hold its records, in the order in which they
+/// were appended, and the others are spare.
+///
+/// A record may be of any type; `append` wants one that tells its tick.
 #[derive(Drop)]
 pub struct SlotList<'a, T> {
     slots: &'a mut [T],

@@ -1,19 +1,19 @@
 ghost use Rattle.std.specs.Prelude.{◌≡◌};
-ghost use Rattle.slots.specs.Refusals.{number};
+ghost use Rattle.slots.specs.Refusals.{slot_refusal_number};
 
-// Why a record is not appended.
+/// Why a record is not appended.
 #[derive(Clone, Copy, Debug, PartialEq, Eq)]
 pub enum Refusal {
-    // every slot is taken
+    /// Every slot is taken.
     NoSlot = 12,
-    // the record's tick is before the last record's
+    /// The record's tick is before the last record's.
     Earlier = 14,
 }
 
 impl Refusal {
-    // Not a `From`: a byte alone would not say that it is the number of a question.
+    /// The number of the question that was answered no.
     pub fn number(self) -> u8
-        ensures { result ≡ number self }
+        ensures { result ≡ slot_refusal_number self }
     {
         self as u8
     }

@@ -6,5 +6,5 @@ abbrev pub fits : List ℕ → ℕ → List ℕ → Bool
 fits out at text = nat_le (at + length text) (length out)
 
 -- out with text written from place at on
-abbrev pub placed : List ℕ → ℕ → List ℕ → List ℕ
-placed out at text = take at out ++ (text ++ drop (at + length text) out)
+abbrev pub with_text_at : List ℕ → ℕ → List ℕ → List ℕ
+with_text_at out at text = take at out ++ (text ++ drop (at + length text) out)

@@ -5,9 +5,8 @@ ghost use Rattle.text.specs.Numeral.{Writes};
 // How many digits a 64-bit number has at most.
 const DIGITS: usize = 20;
 
-// The digits stand at the end of the bytes, from place `first` on. Allocating nothing, it has a table of its own; being `Copy`, it is seen
-// with its fields, and not by a model that forgets where the digits begin.
-#[derive(Clone, Copy, Debug, PartialEq, Eq)]
+// The digits stand at the end of the bytes, from place `first` on.
+#[derive(Clone, Copy)]
 pub(crate) struct Numeral {
     bytes: [u8; DIGITS],
     first: usize,
@@ -32,7 +31,6 @@ pub(crate) fn digits(n: u64) -> Numeral
     let mut first = 19;
     bytes[19] = b'0' + (n % 10) as u8;
     let mut rest = n / 10;
-    // By place: after `iter_mut().rev()` a proof would know the bytes' length alone.
     while rest > 0 {
         first -= 1;
         bytes[first] = b'0' + (rest % 10) as u8;

@@ -9,6 +9,8 @@ mod walk;
 
 use crate::task::TASK;
 use crate::walk::walk;
+use commandline::front::{read_input, read_request, tell_failure, tell_help, tell_usage};
+use commandline::request::Request;
 use orders::load::load;
 use orders::order::Order;
 use player::fault::FileFault;
@@ -18,7 +20,14 @@ use player::opening::open;
 use player::sizes::{INPUT_BYTES, ORDER_SLOTS};
 use slots::SlotList;
 use std::io;
-use std::io::{Read, Write};
+use std::io::Write;
+use std::process::ExitCode;
+
+const USAGE: &str = "usage: walkthrough [--demo | --help] < FILE.orders";
+
+const MEANING: &str =
+    "Plays the order file on standard input, as compose writes it, and tells in words what
+happens; the exported file comes last. With --demo it plays a task of its own, and reads nothing.";
 
 // Reads a schedule into the list, and plays it at the pace that it asks for.
 fn read_and_walk(
@@ -32,21 +41,30 @@ fn read_and_walk(
 }
 
 // Plays a schedule; one that is refused is told as `runfile` tells it.
-fn play(rt: &HostRuntime, bytes: &[u8]) -> io::Result<()> {
+fn play(rt: &HostRuntime, bytes: &[u8]) -> io::Result<ExitCode> {
     let mut slots = vec![in rt.alloc(); Order::default(); ORDER_SLOTS]?;
     let mut list = SlotList::new(slots.as_mut_slice());
     match read_and_walk(rt, bytes, &mut list) {
-        Ok(walked) => walked,
-        Err(fault) => rt.stdout().write_all(notices(Err(fault.into())).as_slice()),
+        Ok(walked) => {
+            walked?;
+            Ok(ExitCode::SUCCESS)
+        }
+        Err(fault) => {
+            let line = notices(Err(fault.into()));
+            rt.stdout().write_all(line.as_slice())?;
+            tell_failure(rt, line.as_slice())
+        }
     }
 }
 
-fn main(rt: HostRuntime) -> io::Result<()> {
-    let mut given = Vec::new(rt.alloc());
-    rt.stdin().take(INPUT_BYTES).read_to_end(&mut given)?;
-    if given.is_empty() {
-        play(&rt, &TASK)
-    } else {
-        play(&rt, given.as_slice())
+fn main(rt: HostRuntime) -> io::Result<ExitCode> {
+    match read_request(&rt)? {
+        Request::Plain => match read_input(&rt, INPUT_BYTES)? {
+            Some(input) => play(&rt, input.as_slice()),
+            None => tell_usage(&rt, USAGE),
+        },
+        Request::Demo => play(&rt, &TASK),
+        Request::Help => tell_help(&rt, USAGE, MEANING),
+        Request::Map | Request::Unknown => tell_usage(&rt, USAGE),
     }
 }

@@ -1,4 +1,4 @@
-// The task that is played where no schedule is given: when may a second controller take over?
+// The task that is played where the demo is asked for: when may a second controller take over?
 // A closed group of 2 parties, halving pace, tmin 1, tmax 10. Every beat and reply arrives within its time; party 1 crashes at
 // tick 12. One record of the order file to a line.
 pub const TASK: [u8; 176] = [

@@ -29,7 +29,7 @@ fn tell_since<P: Pace>(
     Ok(answer)
 }
 
-// Ticks until the clock is the order's tick, then acts, up to the first refusal. What the ticks wrote is told before the order acts:
+// Brings the clock to the order's tick and carries the order out, up to the first refusal. What the ticks wrote is told before that:
 // until then each beat that they sent is still on its leg.
 fn obey<P: Pace>(
     rt: &impl Print,

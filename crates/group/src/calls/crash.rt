@@ -63,7 +63,8 @@ fn do_crash(table: &mut Table, log: &mut SlotList<'_, Happening>, member: Option
     requires ready { Ready log.old table.old.clock 2 }
     requires able { can_crash (number_of member) (record { table = table.old; log = [] }) ≡ true }
     ensures extends { Extends log.old log.new }
-    ensures after { state_of table.new log.new ≡ after_crash (number_of member) (state_of table.old log.old) }
+    ensures after { state_of table.new log.new
+        ≡ after_crash (number_of member) (state_of table.old log.old) }
 {
     let clock = table.clock;
     let owner = match member {

@@ -6,7 +6,9 @@ ghost use Rattle.protocol.specs.calls.Join.{after_join, join_number};
 ghost use Rattle.protocol.specs.Views.{state_of, Ready};
 ghost use Rattle.protocol.specs.declared.call.Call.TheVariants.{Join};
 ghost use Rattle.group.specs.Does.{Does};
+ghost use Rattle.protocol.specs.Rules.{trip, clock_limit};
 
+use crate::dues::trip_of;
 use crate::group::Group;
 use crate::logging::tell;
 use crate::questions::ask_log;
@@ -27,7 +29,7 @@ impl<P: Pace> Group<P> {
         ensures { Does (Join party) self.old self.new log.old log.new result }
     {
         let member = ask_join(&self.plan, &self.table, log, party)?;
-        let trip = self.pace.limits().tmin();
+        let trip = trip_of(&self.pace);
         self.quiet_until = 0;
         do_join(&mut self.table, log, member, trip);
         Ok(())
@@ -60,10 +62,11 @@ fn ask_join(
 #[tactic(auto, using(slots::proofs::Growing::extends_trans, crate::proofs::Appends::still_ready))]
 fn do_join(table: &mut Table, log: &mut SlotList<'_, Happening>, member: Member, trip: u32)
     requires ready { Ready log.old table.old.clock 2 }
-    requires early { table.old.clock ≤ 4000000000 }
+    requires early { table.old.clock ≤ clock_limit }
     requires brief { trip ≤ 1000000 }
     ensures extends { Extends log.old log.new }
-    ensures after { state_of table.new log.new ≡ after_join trip member.number (state_of table.old log.old) }
+    ensures after { state_of table.new log.new
+        ≡ after_join trip member.number (state_of table.old log.old) }
 {
     let clock = table.clock;
     let sending_place = log.len() + 1;

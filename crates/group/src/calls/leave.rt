@@ -59,7 +59,8 @@ fn ask_leave(
 fn do_leave(table: &mut Table, log: &mut SlotList<'_, Happening>, member: Member)
     requires { Ready log.old table.old.clock 2 }
     ensures extends { Extends log.old log.new }
-    ensures after { state_of table.new log.new ≡ after_leave member.number (state_of table.old log.old) }
+    ensures after { state_of table.new log.new
+        ≡ after_leave member.number (state_of table.old log.old) }
 {
     table.parties[member.index()].own.standing = Standing::Live(Stage::Leaving);
     tell(log, table.clock, member.number, HappeningKind::Leaving);

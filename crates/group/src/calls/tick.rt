@@ -9,6 +9,7 @@ ghost use Rattle.protocol.specs.Views.{state_of, Ready};
 ghost use Rattle.protocol.specs.declared.call.Call.TheVariants.{Tick};
 ghost use Rattle.group.specs.Does.{rules_by, Does};
 ghost use Rattle.group.specs.Sane.{Sane};
+ghost use Rattle.protocol.specs.Rules.{clock_limit};
 
 mod passes;
 mod round;
@@ -22,7 +23,7 @@ use pace::Pace;
 use protocol::happening::Happening;
 use protocol::plan::Plan;
 use protocol::refusal::Refusal;
-use protocol::table::Table;
+use protocol::table::{CLOCK_LIMIT, Table};
 use slots::SlotList;
 
 impl<P: Pace> Group<P> {
@@ -51,7 +52,7 @@ pub(crate) fn ask_tick(
         ≡ tick_number plan.now (capacity log.now) (state_of table.now log.now) }
     ensures ready { OnOk result (Ready log.now table.now.clock (2 * plan.now.n)) }
 {
-    if table.clock >= 4_000_000_000 {
+    if table.clock >= CLOCK_LIMIT {
         return Err(Refusal::ClockAtEnd);
     }
     if is_any_due(plan, table) {
@@ -85,7 +86,7 @@ pub(crate) fn do_tick<P: Pace>(
     table: &mut Table,
     log: &mut SlotList<'_, Happening>,
 )
-    requires early { table.old.clock < 4000000000 }
+    requires early { table.old.clock < clock_limit }
     requires sane { Sane table.old }
     requires ready { Ready log.old table.old.clock (2 * plan.now.n) }
     ensures extends { Extends log.old log.new }

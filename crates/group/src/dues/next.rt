@@ -6,7 +6,7 @@ ghost use Rattle.protocol.specs.Quiet.{with_clock, QuietUntil};
 use crate::dues::timer::Timer;
 use pace::Pace;
 use protocol::plan::Plan;
-use protocol::table::{Root, Table};
+use protocol::table::{CLOCK_LIMIT, Root, Table};
 
 // The end of the round of a running root.
 fn round_due(table: &Table) -> u32
@@ -26,6 +26,6 @@ pub(crate) fn next_due<P: Pace>(pace: &P, plan: &Plan, table: &Table) -> u32
     let parties = Timer::at(pace, plan, table).parties_due(table.members(plan));
     round_due(table)
         .min(parties)
-        .min(4_000_000_000)
+        .min(CLOCK_LIMIT)
         .max(table.clock)
 }

@@ -2,11 +2,13 @@
 ghost use Rattle.std.specs.Prelude.{◌≡◌, ℕ, ◌-◌, ◌<◌, ◌≤◌, true, false, length, slice_index_or};
 ghost use Rattle.protocol.specs.calls.Tick.{due_on, calls_in};
 ghost use Rattle.protocol.specs.Party.{nobody};
+ghost use Rattle.protocol.specs.Rules.{trip};
 ghost use Rattle.protocol.specs.Quiet.{timer_rests, Rests};
 ghost use Rattle.protocol.specs.declared.party.Stage.TheVariants.{Joining};
 ghost use Rattle.group.specs.Patience.{DoesFor};
+ghost use Rattle.group.specs.Until.{Until};
 
-use crate::dues::patience::patience_for;
+use crate::dues::patience::{patience_for, trip_of};
 use pace::Pace;
 use pace::limits::Limits;
 use protocol::party::{Beat, Own, Party, Stage, Standing};
@@ -18,8 +20,10 @@ use protocol::table::Table;
 pub(crate) struct Timer {
     pub(crate) clock: u32,
     pub(crate) patience: u32,
+    pub(crate) trip: u32,
     pub(crate) limits: Limits,
     ghost some: { 0 < patience },
+    ghost brief: { trip ≤ 1000000 },
 }
 
 impl Timer {
@@ -27,18 +31,21 @@ impl Timer {
     pub(crate) fn at<P: Pace>(pace: &P, plan: &Plan, table: &Table) -> Timer
         ensures clock { result.clock ≡ table.now.clock }
         ensures patience { DoesFor (P.means pace.now) plan.now table.now result.patience }
+        ensures trip { result.trip ≡ trip (P.means pace.now) }
         ensures tmin { result.limits.tmin ≡ (P.means pace.now).tmin }
     {
         Timer {
             clock: table.clock,
             patience: patience_for(pace, plan, table),
+            trip: trip_of(pace),
             limits: pace.limits(),
         }
     }
 
     // The next joining beat of a party: after each positive multiple of tmin ticks of silence.
     fn call_due(&self, since: u32) -> u32
-        ensures { (c : ℕ) → self.now.clock ≤ c → c < result → calls_in Joining self.now.limits.tmin (c - since) ≡ false }
+        ensures { Until self.now.clock result
+            (λ c. calls_in Joining self.now.limits.tmin (c - since) ≡ false) }
     {
         let silent = self.clock.saturating_sub(since);
         let past = silent % self.limits.tmin();
@@ -51,7 +58,8 @@ impl Timer {
 
     // The end of a party's patience, or its next joining beat.
     fn own_due(&self, own: Own) -> u32
-        ensures { (c : ℕ) → self.now.clock ≤ c → c < result → timer_rests own.standing self.now.patience self.now.limits.tmin (c - own.since) ≡ true }
+        ensures { Until self.now.clock result (λ c. timer_rests own.standing
+            self.now.patience self.now.limits.tmin (c - own.since) ≡ true) }
     {
         let end = own.since.saturating_add(self.patience);
         match own.standing {
@@ -63,7 +71,8 @@ impl Timer {
 
     // What is due first of a party: a beat on one of its legs, or its timer.
     fn party_due(&self, party: &Party) -> u32
-        ensures { (c : ℕ) → self.now.clock ≤ c → c < result → Rests self.now.patience self.now.limits.tmin c party.now }
+        ensures { Until self.now.clock result
+            (λ c. Rests self.now.patience self.now.limits.tmin c party.now) }
     {
         let legs = party.legs;
         beat_due(legs.out)
@@ -74,7 +83,8 @@ impl Timer {
 
     // What is due first of all of them.
     pub(crate) fn parties_due(&self, parties: &[Party]) -> u32
-        ensures { (c : ℕ) → self.now.clock ≤ c → c < result → (k : ℕ) → k < length parties.now → Rests self.now.patience self.now.limits.tmin c (slice_index_or parties.now k nobody) }
+        ensures { Until self.now.clock result (λ c. (k : ℕ) → k < length parties.now →
+            Rests self.now.patience self.now.limits.tmin c (slice_index_or parties.now k nobody)) }
     {
         let mut due = u32::MAX;
         for party in parties {

@@ -18,7 +18,8 @@ pub(crate) fn ask_log(
     wanted: usize,
 ) -> Result<(), Refusal>
     requires { wanted ≤ 64 }
-    ensures number { number_told result ≡ log_asks wanted (capacity log.now) (state_of table.now log.now) }
+    ensures number { number_told result
+        ≡ log_asks wanted (capacity log.now) (state_of table.now log.now) }
     ensures ready { OnOk result (Ready log.now table.now.clock wanted) }
 {
     if log.free() < wanted {

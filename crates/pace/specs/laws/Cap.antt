@@ -3,9 +3,9 @@ use Rattle.std.specs.Prelude.{ℕ, ◌≤◌}
 use Rattle.std.proofs.Common.{◌∙◌, arith}
 use Rattle.std.proofs.lemmas.List.{length-take, get_or-take}
 use Rattle.pace.specs.Meaning.{Meaning, Lawful}
-use Rattle.pace.specs.Cap.{capped}
+use Rattle.pace.specs.Cap.{capped_meaning}
 
-pub capped_lawful : (m : ℕ) (p : Meaning) → 1 ≤ m → Lawful p → Lawful (capped m p)
+pub capped_lawful : (m : ℕ) (p : Meaning) → 1 ≤ m → Lawful p → Lawful (capped_meaning m p)
 capped_lawful m p h law = record {
   low = law.low;
   ordered = law.ordered;

@@ -5,7 +5,7 @@ use Rattle.std.proofs.lemmas.List.Elements.{All-get_or}
 use Rattle.std.proofs.lemmas.List.Sums.{AllPass-from_list_all}
 use Rattle.std.proofs.lemmas.Bool.Decides.{nat_tests}
 use Rattle.pace.specs.declared.limits.Limits.{Limits}
-use Rattle.pace.specs.Meaning.{Lawful, between}
+use Rattle.pace.specs.Meaning.{Lawful, meaning_between}
 use Rattle.pace.specs.Listed.{all_within, waits_no}
 
 -- each wait lies within the limits
@@ -18,7 +18,7 @@ within_each tmin tmax ws e k h =
     (grind (arith, nat_tests), grind (arith, nat_tests))
 
 pub allowed_lawful : (l : Limits) (ws : List ℕ) → waits_no l.tmin l.tmax ws ≡ 0 →
-    Lawful (between l ws)
+    Lawful (meaning_between l ws)
 allowed_lawful l ws e =
     let each = within_each l.tmin l.tmax ws (grind (arith, nat_tests)) in
     record {

@@ -21,7 +21,7 @@ use Rattle.std.specs.List.{slice_get, list_any, fold}
 use Rattle.std.specs.Option.{unwrap_or}
 use Rattle.protocol.specs.Walk.{folds, walks}
 use Rattle.protocol.specs.declared.plan.Plan.{Plan}
-use Rattle.protocol.specs.Rules.{Rules, trip, patience}
+use Rattle.protocol.specs.Rules.{Rules, trip, patience, clock_limit}
 use Rattle.protocol.specs.Party.{beat, noted, owning, legs_of, party, on_roll}
 use Rattle.protocol.specs.State.{State, with_record, the, runs}
 use Rattle.protocol.specs.Questions.{asks, log_asks}
@@ -41,7 +41,7 @@ due clock p = due_on clock p.legs.out || (due_on clock p.legs.reply || due_on cl
 -- the number of the first question answered no, 0 where each has a yes
 abbrev pub tick_number : Plan → ℕ → State → ℕ
 tick_number plan room s =
-    asks (nat_lt s.table.clock 4000000000) 10
+    asks (nat_lt s.table.clock clock_limit) 10
     (asks (not (any (due s.table.clock) plan.n s.table.parties)) 11 (log_asks (2 * plan.n) room s))
 
 -- a round ends: a party on the roll has missed none when it was heard, otherwise one more

@@ -7,12 +7,12 @@ use crate::kind::GroupKind;
 use crate::member::Member;
 use crate::plan::Plan;
 
-// The number of parties is not 1 to 32: question 5.
+/// The number of parties is not 1 to 32: question 5.
 #[derive(Clone, Copy, Debug, PartialEq, Eq)]
 pub struct BadPartyCount;
 
 impl BadPartyCount {
-    // Not a `From`: a byte alone would not say that it is the number of a question.
+    /// The number of the question that was answered no.
     pub fn number(self) -> u8
         ensures { result ≡ bad_count_number self }
     {
@@ -21,6 +21,7 @@ impl BadPartyCount {
 }
 
 impl Plan {
+    /// A plan of `n` parties beside the root; refused where they are not 1 to 32.
     pub fn new(kind: GroupKind, n: u8) -> Result<Plan, BadPartyCount>
         ensures { Planned kind n result }
     {
@@ -31,19 +32,21 @@ impl Plan {
         }
     }
 
+    /// Who may join and leave.
     pub fn kind(&self) -> GroupKind
         ensures { result ≡ self.now.kind }
     {
         self.kind
     }
 
+    /// The number of parties, without the root.
     pub fn parties(&self) -> u8
         ensures { result ≡ self.now.n }
     {
         self.n
     }
 
-    // The party of that number, if the plan has so many.
+    /// The party of that number, if the plan has so many.
     pub fn member(&self, number: u8) -> Option<Member>
         ensures known { is_some result ≡ is_party self.now.n number }
         ensures number { IfSome result (λ m. m.number ≡ number) }

@@ -5,7 +5,7 @@ use Rattle.graphml.specs.Numbers.{Fits}
 use Rattle.graphml.proofs.Party.{no_graph, all_in, no_graph_numbers, all_numbers}
 use Rattle.graphml.proofs.graph.write_party.Goals as goal
 use Rattle.graphml.proofs.graph.write_party.Goals.{After-close-run}
-use Rattle.markup.specs.Cut.{kept}
+use Rattle.markup.specs.Cut.{fitting_part}
 use Rattle.markup.specs.Forests.{none, Each}
 use Rattle.graphml.specs.Elements.{spelling}
 
@@ -33,7 +33,7 @@ returns-in-Ok-written-clause-after c = closed (goal.at.returns-in-Ok-written-cla
 pub returns-in-Err-written-clause-after : goal.returns-in-Err-written-clause-after
 returns-in-Err-written-clause-after c = closed (goal.at.returns-in-Err-written-clause-after c).After-close-run
 
-numbered : (c : After-close-run) → Each Fits (kept spelling c.args.out.now.room (party_then c.args.log.now c.args.party none))
+numbered : (c : After-close-run) → Each Fits (fitting_part spelling c.args.out.now.room (party_then c.args.log.now c.args.party none))
 numbered c =
     let a = c.in_ok-node.ensures in
     let b = c.in-Ok.ensures in

@@ -1,5 +1,5 @@
 use Rattle.std.proofs.Common.{ap, ◌∙◌, arith, length-append}
-use Rattle.text.specs.Lines.{added}
+use Rattle.text.specs.Lines.{line_with}
 use Rattle.text.proofs.Lines.{onto}
 use Rattle.graphml.specs.Texts.{happening_line}
 use Rattle.graphml.proofs.Words.{number_le, word_le}
@@ -16,5 +16,5 @@ returns-clause-line c =
     let three = onto _ two c.add-2.ensures (simp length-append (omega arith)) in
     let four = onto _ three c.number-2.ensures (simp length-append (omega arith)) in
     let five = onto _ four c.add-3.ensures (simp length-append (omega arith)) in
-    let six = onto _ five (c.add-4.ensures ∙ ap (λ t. added c.add-3.new.self t) (c.as_bytes.ensures.value ∙ c.word.ensures)) (simp length-append (omega arith)) in
+    let six = onto _ five (c.add-4.ensures ∙ ap (λ t. line_with c.add-3.new.self t) (c.as_bytes.ensures.value ∙ c.word.ensures)) (simp length-append (omega arith)) in
     onto _ six c.add-5.ensures (simp length-append (omega arith))

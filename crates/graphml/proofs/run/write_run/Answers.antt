@@ -6,7 +6,7 @@ use Rattle.graphml.specs.Answer.{in_frame, part, over, written}
 use Rattle.graphml.proofs.Whole.{finished, answered, left_as_written, closes, whole_text, shown}
 use Rattle.graphml.proofs.run.write_run.Goals as goal
 use Rattle.markup.proofs.Ending.{ends_at}
-use Rattle.markup.specs.Cut.{all_fits, kept}
+use Rattle.markup.specs.Cut.{all_fits, fitting_part}
 use Rattle.markup.specs.Forests.{Each}
 use Rattle.graphml.specs.Elements.{spelling}
 
@@ -22,7 +22,7 @@ returns c =
     let end : c.close.new.out.bytes.now ≡ over (in_frame (part log n (length out))) out = f.bytes in
     let left : c.close.new.out.bytes.now ≡ written log n out = left_as_written out log n h end in
     let same = f.same in
-    let numbers : Each Fits (part log n (length out)) = subst (λ (s : Writer). Each Fits (kept spelling s.out.room (body log n))) c.open-run.ensures.after c.write_body-written.ensures.numbers in
+    let numbers : Each Fits (part log n (length out)) = subst (λ (s : Writer). Each Fits (fitting_part spelling s.out.room (body log n))) c.open-run.ensures.after c.write_body-written.ensures.numbers in
     record {
       answer = answered out log n h c.open-run.ensures.after told f;
       bytes = search rules;

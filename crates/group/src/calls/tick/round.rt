@@ -6,8 +6,10 @@ ghost use Rattle.protocol.specs.Views.{Ready};
 ghost use Rattle.group.specs.Does.{rules_by};
 ghost use Rattle.group.specs.Sane.{Sane};
 ghost use Rattle.group.specs.Views.{Acted};
+ghost use Rattle.protocol.specs.Rules.{clock_limit};
 
 use crate::calls::tick::passes::{count_misses, send_all};
+use crate::dues::trip_of;
 use crate::logging::tell;
 use pace::Pace;
 use protocol::happening::{Happening, HappeningKind};
@@ -36,7 +38,7 @@ pub(crate) fn end_round<P: Pace>(
 
 // The root stops, or starts the next round and sends.
 fn settle<P: Pace>(pace: &P, plan: &Plan, table: &mut Table, log: &mut SlotList<'_, Happening>)
-    requires early { table.old.clock ≤ 4000000000 }
+    requires early { table.old.clock ≤ clock_limit }
     requires ready { Ready log.old table.old.clock plan.now.n }
     ensures { Acted plan.now.n (after_verdict (rules_by (P.means pace.now) plan.now log.old))
         table.old table.new log.old log.new }
@@ -48,7 +50,7 @@ fn settle<P: Pace>(pace: &P, plan: &Plan, table: &mut Table, log: &mut SlotList<
     } else {
         table.length = next_length(pace, plan, table);
         table.start = clock;
-        send_all(plan, table, log, clock + pace.limits().tmin());
+        send_all(plan, table, log, clock + trip_of(pace));
     }
 }
 

@@ -3,14 +3,14 @@ use Rattle.std.specs.Result.{MatchResult, IsErrAnd}
 use Rattle.std.proofs.lemmas.Result.{err_from_is_err_and}
 use Rattle.slots.specs.declared.SlotList.{SlotList}
 use Rattle.slots.specs.declared.refusal.Refusal.{Refusal}
-use Rattle.slots.specs.Slots.{items, spare, Appended}
+use Rattle.slots.specs.Slots.{items, spare, Appends}
 use Rattle.slots.proofs.Growing.{extends_refl, extends_trans}
 use Rattle.orders.specs.declared.fault.ReadFault.{ReadFault}
 use Rattle.orders.specs.declared.fault.ReadCause.TheVariants.{Append}
 use Rattle.orders.specs.declared.order.Order.{Order}
 use Rattle.orders.specs.declared.start.Start.{Start}
-use Rattle.orders.specs.Loading.{loaded, started}
-use Rattle.orders.specs.Reading.{fault, start_at, after_order}
+use Rattle.orders.specs.Loading.{load_outcome, start_outcome}
+use Rattle.orders.specs.Reading.{fault, start_at, place_after_order}
 use Rattle.orders.proofs.Loads.{Left, left_end, left_fault, left_refused, left_more, written_files}
 use Rattle.orders.proofs.Example.{examples_load}
 use Rattle.orders.proofs.OnlyWritten.{only_written}
@@ -37,7 +37,7 @@ returns-in_err-start c =
     let p = err_from_is_err_and c.from_residual.result c.from_residual.ensures.1 in
     let n = c.new-reader.ensures in
     let l = c.args.list.now in
-    let e = ap (λ z. started c.args.bytes.now (items l) (spare l) z) (start_was _ _ _ _ n.bytes n.place h.answer) in
+    let e = ap (λ z. start_outcome c.args.bytes.now (items l) (spare l) z) (start_was _ _ _ _ n.bytes n.place h.answer) in
     record {
       answer = p.1 ∙ ap Err p.2 ∙ sym (ap (λ z. z.answer) e);
       items = sym (ap (λ z. z.items) e);
@@ -55,8 +55,8 @@ loop-order-init c =
     let n = c.new-reader.ensures in
     let l = c.args.list.now in
     let bs = c.args.bytes.now in
-    let out = loaded bs (items l) (spare l) in
-    let e = ap (λ z. started bs (items l) (spare l) z) (start_was _ _ _ _ n.bytes n.place h.answer) in
+    let out = load_outcome bs (items l) (spare l) in
+    let e = ap (λ z. start_outcome bs (items l) (spare l) z) (start_was _ _ _ _ n.bytes n.place h.answer) in
     let at : 14 ≡ c.start.new.self.at = omega arith in
     let P : ℕ → Type 0 = λ i. Left c.in_ok-start.start bs i (items l) (spare l) out in
     let Q : List ℕ → Type 0 = λ zs. Left c.in_ok-start.start zs c.start.new.self.at (items l) (spare l) out in (
@@ -106,7 +106,7 @@ returns-in_err-map_err c =
     let h = c.append.ensures in
     let m = refused _ _ _ _ c.map_err.ensures.cases c.in_err-map_err.was in
     let told : c.in_err-map_err.field-0.0 ≡ fault c.place-byte.result (Append m.0) = search rules in
-    let same : c.append.new.self ≡ l.list = subst (λ z. MatchResult z (λ x. Appended l.list c.append.new.self (c.in-Some.order ∷ [])) (λ x. c.append.new.self ≡ l.list)) m.1 h.after in
+    let same : c.append.new.self ≡ l.list = subst (λ z. MatchResult z (λ x. Appends l.list c.append.new.self (c.in-Some.order ∷ [])) (λ x. c.append.new.self ≡ l.list)) m.1 h.after in
     let p = err_from_is_err_and c.from_residual-in_err-map_err.result c.from_residual-in_err-map_err.ensures.1 in
     let e =
     left_refused _ l.reader.bytes.now l.reader.at (items l.list) (spare l.list) _ l.reader.within
@@ -130,12 +130,12 @@ loop-order-preserved c =
     let h = c.append.ensures in
     let m = c.append.new.self in
     let k = allowed _ _ _ c.map_err.ensures.cases c.in_ok-map_err.was in
-    let after : Appended l.list m (c.in-Some.order ∷ []) =
-    subst (λ z. MatchResult z (λ x. Appended l.list m (c.in-Some.order ∷ [])) (λ x. m ≡ l.list)) k h.after in (
+    let after : Appends l.list m (c.in-Some.order ∷ []) =
+    subst (λ z. MatchResult z (λ x. Appends l.list m (c.in-Some.order ∷ [])) (λ x. m ≡ l.list)) k h.after in (
       left_more _ l.reader.bytes.now l.reader.at (items l.list) (spare l.list) _ l.reader.within
           c.in-Some.order c.order.new.self.bytes.now c.order.new.self.at (items m) (spare m) l.invariant.0
           (ap Ok (sym c.in-Some.is) ∙ n.answer) (sym k ∙ h.answer)
-          (ap (λ x. x.now) n.bytes) (n.place ∙ ap (λ r. after_order (Ok r) l.reader.at) c.in-Some.is) after.grown after.rest,
+          (ap (λ x. x.now) n.bytes) (n.place ∙ ap (λ r. place_after_order (Ok r) l.reader.at) c.in-Some.is) after.records after.spares,
       extends_trans c.args.list.now l.list m l.invariant.1 h.extends,
       λ r. h.rises (l.invariant.2 r),
     )

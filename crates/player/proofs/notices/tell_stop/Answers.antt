@@ -1,5 +1,5 @@
 use Rattle.std.proofs.Common.{decimal, refl, ap, ◌∙◌, append_assoc, arith, length-append}
-use Rattle.text.specs.Lines.{added}
+use Rattle.text.specs.Lines.{line_with}
 use Rattle.text.proofs.Lines.{onto}
 use Rattle.player.specs.Playing.{fault_number}
 use Rattle.player.specs.Notices.{stopped_line}
@@ -16,5 +16,5 @@ returns c =
     let one = onto _ refl c.add.ensures (omega arith) in
     let two = onto _ one c.number.ensures (simp length-append (omega arith)) in
     let three = onto _ two c.add-2.ensures (simp length-append (omega arith)) in
-    let four = onto _ three (c.number-3.ensures ∙ ap (λ n. added c.add-2.new.self (decimal n)) c.number-2.ensures) (simp length-append (omega arith)) in
+    let four = onto _ three (c.number-3.ensures ∙ ap (λ n. line_with c.add-2.new.self (decimal n)) c.number-2.ensures) (simp length-append (omega arith)) in
     onto _ four c.add-3.ensures (simp length-append (omega arith)) ∙ simp append_assoc

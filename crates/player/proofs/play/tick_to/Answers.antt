@@ -1,5 +1,4 @@
-use Rattle.std.proofs.Common.{◌∙◌, arith}
-use Rattle.player.specs.Playing.{fault_told}
+use Rattle.std.proofs.Common.{arith}
 use Rattle.protocol.proofs.Making.{some_number}
 use Rattle.player.proofs.Turns.{passed_on}
 use Rattle.player.proofs.Ticking.{towards_more, towards_refused}
@@ -19,10 +18,5 @@ returns-in_err-advance g c =
     let y = c.advance.new in
     let e = c.in_err-advance.ensures in
     let k = some_number c.in_err-advance.field-0.0 in
-    record {
-      pace = e.stays.pace ∙ x.invariant.stays.pace;
-      plan = e.stays.plan ∙ x.invariant.stays.plan;
-      made =
-          towards_refused a.tick a.group.now x.group y.self a.log.now x.log y.log _ x.invariant e
-          k.0 (fault_told c.from_residual.result) k.1 (passed_on c.from_residual.result _ c.from_residual.ensures.1) (omega (arith, c.clock.ensures, c.loop-group-test.true));
-    }
+    towards_refused a.tick a.group.now x.group y.self a.log.now x.log y.log _ x.invariant e
+    k.0 c.from_residual.result k.1 (passed_on c.from_residual.result _ c.from_residual.ensures.1) (omega (arith, c.clock.ensures, c.loop-group-test.true))

@@ -1,12 +1,12 @@
 use Rattle.std.proofs.Common.{◌≡◌, ℕ, List, Err, Result, sym, refl, ap, ◌∙◌, subst, arith, rules}
 use Rattle.std.proofs.lemmas.Result.{err_from_is_err_and}
 use Rattle.pace.specs.Meaning.{Meaning}
-use Rattle.pace.specs.Cap.{capped}
+use Rattle.pace.specs.Cap.{capped_meaning}
 use Rattle.pace.specs.laws.Cap.{capped_lawful}
 use Rattle.slots.specs.Slots.{items}
 use Rattle.protocol.specs.declared.happening.Happening.{Happening}
-use Rattle.protocol.specs.Group.{opened}
-use Rattle.protocol.specs.Views.{play}
+use Rattle.protocol.specs.State.{new_table}
+use Rattle.protocol.specs.Views.{state_of}
 use Rattle.graphml.specs.declared.answer.Exported.{Exported}
 use Rattle.graphml.specs.declared.answer.Refusal.{Refusal}
 use Rattle.player.specs.Playing.{stop_told}
@@ -27,39 +27,38 @@ returns-in_err-group-clause-run g c =
 -- what came of it, once the run was exported
 came : (g : given.Over) (c : After-export g) (hs' : List Happening) (r : Result Exported Refusal) (bytes : ℕ) (lines : List ℕ) → hs' ≡ c.play-played.new.log.slots.now →
     c.export.result ≡ r → Prints r (stop_told c.play-played.result) bytes lines →
-    SetUp (cap_and_plan_no c.args.start) (capped c.args.start.cap (g.P.Pace.means c.args.pace)) c.args.start (items c.args.orders.now) c.args.log_slots.now hs' c.args.out.now c.export.new.out bytes lines
+    SetUp (cap_and_plan_no c.args.start) (capped_meaning c.args.start.cap (g.P.Pace.means c.args.pace)) c.args.start (items c.args.orders.now) c.args.log_slots.now hs' c.args.out.now c.export.new.out bytes lines
 came g c hs' r bytes lines back was prints =
     let means = g.P.Pace.means in
     let start = c.args.start in
     let group = c.in_ok-group.group in
     let o = c.in_ok-group.ensures in
     let p = c.play-played.ensures in
-    let q = p.played in
     let e = c.export.ensures in
-    let m : Meaning = capped group.pace.m (means group.pace.pace) in
+    let m : Meaning = capped_meaning group.pace.m (means group.pace.pace) in
     let sound = capped_lawful group.pace.m (means group.pace.pace) group.pace.some (g.met.P.Pace.lawful group.pace.pace) in
     let x = c.play-played.new in
-    let same : m ≡ capped start.cap (means c.args.pace) = ap (λ n. capped n (means group.pace.pace)) o.pace.1 ∙ ap (λ q. capped start.cap (means q)) o.pace.0 in
+    let same : m ≡ capped_meaning start.cap (means c.args.pace) = ap (λ n. capped_meaning n (means group.pace.pace)) o.pace.1 ∙ ap (λ q. capped_meaning start.cap (means q)) o.pace.0 in
     set_up start _ m group.plan _ _ hs' _ _ bytes lines (o.granted.0 refl) same o.plan.0 o.plan.1
-    (played m sound group.plan (items c.args.orders.now) c.args.log_slots.now group.table x.group.table c.new-log.result x.log (stop_told c.play-played.result)
-    (o.table ∙ ap (λ q. (opened q group.plan).table) (sym same)) c.new-log.ensures.empty c.new-log.ensures.spare q.after q.answer q.extends
-    hs' c.args.out.now c.export.new.out x.group.plan c.export.result bytes lines
-    back p.plan e.answer e.bytes e.whole e.cut e.closes e.shown (subst (λ y. Prints y (stop_told c.play-played.result) bytes lines) (sym was) prints))
+    (played (items c.args.orders.now) c.args.log_slots.now group x.group c.new-log.result x.log c.play-played.result sound
+    (o.table ∙ ap (λ (q : Meaning). new_table q.tmax group.plan.kind) (sym same)) c.new-log.ensures.empty c.new-log.ensures.spare p
+    hs' c.args.out.now c.export.new.out c.export.result bytes lines
+    back e.answer e.bytes e.whole e.cut e.closes e.shown (subst (λ y. Prints y (stop_told c.play-played.result) bytes lines) (sym was) prints))
 
 pub returns-in_err-exported-clause-run : goal.returns-in_err-exported-clause-run
 returns-in_err-exported-clause-run g c =
     let p = err_from_is_err_and c.from_residual-in_err-exported.result c.from_residual-in_err-exported.ensures.1 in
     let r = p.1 ∙ ap Err p.2 in
-    let tie = c.play-played.ensures.played.extends.lent ∙ c.new-log.ensures.lent in
+    let tie = c.play-played.ensures.stays.extends.lent ∙ c.new-log.ensures.lent in
     came g (goal.at.returns-in_err-exported-clause-run g c).After-export _ _ _ _ (search rules) c.in_err-exported.was (ap bytes_told r, ap lines_told r)
 
 pub returns : goal.returns
 returns g c =
     let e = c.in_ok-exported.ensures in
     let x = c.play-played.new in
-    let tie = c.play-played.ensures.played.extends.lent ∙ c.new-log.ensures.lent in
+    let tie = c.play-played.ensures.stays.extends.lent ∙ c.new-log.ensures.lent in
     record {
       run =
           came g (goal.at.returns g c).After-export _ _ _ _ (search rules) c.in_ok-exported.was (refl, refl);
-      within = told_within (play x.group.table x.log) x.group.plan.n c.args.out.now c.export.new.out _ e.answer e.bytes (omega arith);
+      within = told_within (state_of x.group.table x.log) x.group.plan.n c.args.out.now c.export.new.out _ e.answer e.bytes (omega arith);
     }

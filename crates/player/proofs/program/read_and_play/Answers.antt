@@ -1,6 +1,6 @@
 use Rattle.std.proofs.Common.{◌≡◌, ℕ, List, Err, Result, sym, refl, ap, ◌∙◌, rules}
 use Rattle.std.proofs.lemmas.Result.{err_from_is_err_and}
-use Rattle.pace.specs.Cap.{capped}
+use Rattle.pace.specs.Cap.{capped_meaning}
 use Rattle.slots.specs.Slots.{items}
 use Rattle.protocol.specs.declared.happening.Happening.{Happening}
 use Rattle.orders.specs.declared.fault.ReadFault.{ReadFault}
@@ -44,4 +44,4 @@ returns-clause-run c =
     let made = c.in_ok-pace.ensures in
     let tie = c.load.ensures.extends.lent ∙ c.new-orders.ensures.lent in
     came (goal.at.returns-clause-run c).After-load _ _ _ _ _ _ (search rules) c.in_ok-start.was
-    (limits_granted start (items c.load.new.list) _ _ _ _ _ _ _ made.0 (ap (capped start.cap) made.1) c.play_at.ensures.run)
+    (limits_granted start (items c.load.new.list) _ _ _ _ _ _ _ made.0 (ap (capped_meaning start.cap) made.1) c.play_at.ensures.run)

@@ -4,7 +4,7 @@ use Rattle.slots.specs.Slots.{items, spare}
 use Rattle.slots.proofs.Growing.{extends_trans}
 use Rattle.schedule.specs.Cuts.{lines_in, line_words}
 use Rattle.schedule.specs.Records.{order_in}
-use Rattle.schedule.specs.Texts.{ended, orders_from, order_met}
+use Rattle.schedule.specs.Texts.{reading_end, order_lines_from, order_reading}
 use Rattle.schedule.specs.Steps.{past_orders}
 use Rattle.schedule.proofs.Walks.{order_asked, orders_over}
 use Rattle.schedule.proofs.read.read_orders.Goals as goal
@@ -16,8 +16,8 @@ loop-text-preserved c =
     let h = c.in-Some.ensures.steps in
     let a = c.in_ok-add_order.ensures in (
       λ s. l.invariant.0 s ∙ order_asked s l.lines.number m.number (lines_in l.lines.rest.now) (lines_in m.rest.now) c.in-Some.text.now (items l.list) (spare l.list) h.0 h.1
-          ∙ ap (λ n. order_met n (orders_from s m.number (lines_in m.rest.now)) (items l.list) (spare l.list) (order_in (line_words c.in-Some.text.now))) (sym c.number.ensures.number)
-          ∙ a.met (orders_from s m.number (lines_in m.rest.now)),
+          ∙ ap (λ n. order_reading n (order_lines_from s m.number (lines_in m.rest.now)) (items l.list) (spare l.list) (order_in (line_words c.in-Some.text.now))) (sym c.number.ensures.number)
+          ∙ a.met (order_lines_from s m.number (lines_in m.rest.now)),
       extends_trans c.args.list.now l.list c.add_order.new.list l.invariant.1 a.extends,
     )
 
@@ -31,8 +31,8 @@ returns-in_err-add_order c =
     record {
       read =
           λ s. l.invariant.0 s ∙ order_asked s l.lines.number m.number (lines_in l.lines.rest.now) (lines_in m.rest.now) c.in-Some.text.now (items l.list) (spare l.list) h.0 h.1
-          ∙ ap (λ n. order_met n (orders_from s m.number (lines_in m.rest.now)) (items l.list) (spare l.list) (order_in (line_words c.in-Some.text.now))) (sym c.number.ensures.number)
-          ∙ a.met (orders_from s m.number (lines_in m.rest.now))
+          ∙ ap (λ n. order_reading n (order_lines_from s m.number (lines_in m.rest.now)) (items l.list) (spare l.list) (order_in (line_words c.in-Some.text.now))) (sym c.number.ensures.number)
+          ∙ a.met (order_lines_from s m.number (lines_in m.rest.now))
           ∙ sym (ap (λ r. past_orders s r m.number (items c.add_order.new.list) (spare c.add_order.new.list)) (p.1 ∙ ap Err p.2));
       extends = extends_trans c.args.list.now l.list c.add_order.new.list l.invariant.1 a.extends;
     }
@@ -44,6 +44,6 @@ returns c =
     record {
       read =
           λ s. l.invariant.0 s ∙ orders_over s l.lines.number (lines_in l.lines.rest.now) (items l.list) (spare l.list) h.0
-          ∙ ap (λ n. ended (Ok s) n (items l.list) (spare l.list)) (sym h.2);
+          ∙ ap (λ n. reading_end (Ok s) n (items l.list) (spare l.list)) (sym h.2);
       extends = l.invariant.1;
     }

@@ -1,7 +1,7 @@
 use Rattle.std.proofs.Common.{◌≡◌, ◌+◌, ◌*◌, true, false, cond, leb, length, Some, None, sym, ap, ◌∙◌}
 use Rattle.std.proofs.lemmas.Bool.{leb-true}
 use Rattle.orders.specs.Writing.{bytes_of_file}
-use Rattle.schedule.specs.Composing.{written}
+use Rattle.schedule.specs.Composing.{with_file}
 use Rattle.schedule.proofs.Lengths.{file_long}
 use Rattle.schedule.proofs.Filing.{whole_file}
 use Rattle.schedule.proofs.write.write.Goals as goal
@@ -14,7 +14,7 @@ returns-then-not-has_room c =
     ap (λ n. leb n (length out)) (file_long c.args.start c.args.orders.now) ∙ sym c.if-not-has_room.ensures in
     record {
       answer = sym (ap (λ b. cond b (Some (length file)) None) t);
-      after = sym (ap (λ b. cond b (written file out) out) t);
+      after = sym (ap (λ b. cond b (with_file file out) out) t);
     }
 
 pub returns : goal.returns
@@ -28,5 +28,5 @@ returns c =
     c.to_bytes.ensures.written (leb-true _ _ h) c.put-at.ensures.after c.put-at.ensures.end c.write_orders.ensures.after c.write_orders.ensures.end in
     record {
       answer = ap Some w.1 ∙ sym (ap (λ b. cond b (Some (length file)) None) t);
-      after = w.0 ∙ sym (ap (λ b. cond b (written file out) out) t);
+      after = w.0 ∙ sym (ap (λ b. cond b (with_file file out) out) t);
     }

@@ -1,7 +1,8 @@
 use Rattle.std.proofs.Common.{◌≡◌, ◌<◌, ◌∷◌, length, sym, refl, ap, ◌∙◌, arith, rules}
 use Rattle.std.proofs.lemmas.Bool.Decides.{nat_tests}
-use Rattle.schedule.specs.Cuts.{ends_line, past, lines_in}
-use Rattle.schedule.proofs.Pieces.{past_lt}
+use Rattle.std.specs.List.{after_first}
+use Rattle.schedule.specs.Cuts.{ends_line, lines_in}
+use Rattle.schedule.proofs.Pieces.{after_lt}
 use Rattle.schedule.proofs.Taking.{one_line, no_line}
 use Rattle.schedule.proofs.lines.LinesIterator.next.Goals as goal
 
@@ -20,7 +21,7 @@ invariant_of-self c =
     let some : 0 < length bs = grind (arith, nat_tests) in
     let cut = c.cut.ensures ends_line (λ b r k. search rules) in
     let e = ap length cut.1 in
-    let l = past_lt ends_line bs some in
+    let l = after_lt ends_line bs some in
     record { fits = omega arith }
 
 pub returns : goal.returns
@@ -29,5 +30,5 @@ returns c =
     let cut = c.cut.ensures ends_line (λ b r k. search rules) in
     let t = c.if-is_empty.ensures in
     let some : 0 < length bs = grind (arith, nat_tests) in
-    let taken = one_line bs some ∙ ap (λ z. z ∷ lines_in (past ends_line bs)) (sym cut.0) ∙ ap (λ z. c.cut.result.0.now ∷ lines_in z) (sym cut.1) in
+    let taken = one_line bs some ∙ ap (λ z. z ∷ lines_in (after_first ends_line bs)) (sym cut.0) ∙ ap (λ z. c.cut.result.0.now ∷ lines_in z) (sym cut.1) in
     record { steps = (taken, refl); goes = let fewer = ap length taken in search rules }

@@ -1,8 +1,9 @@
 use Rattle.std.proofs.Common.{◌≡◌, ◌<◌, ◌∷◌, length, sym, ap, ◌∙◌, arith, rules}
 use borrow.Author.Tests.{tests}
 use Rattle.std.proofs.lemmas.Bool.Decides.{nat_tests}
-use Rattle.schedule.specs.Cuts.{is_blank, past, words_in}
-use Rattle.schedule.proofs.Pieces.{past_lt}
+use Rattle.std.specs.List.{after_first}
+use Rattle.schedule.specs.Cuts.{is_blank, words_in}
+use Rattle.schedule.proofs.Pieces.{after_lt}
 use Rattle.schedule.proofs.Taking.{one_word, one_blank, no_word}
 use Rattle.schedule.proofs.words.WordsIterator.next.Goals as goal
 
@@ -16,7 +17,7 @@ returns-then-not-is_empty c =
     let word : 0 < length c.cut.result.0.now = grind (arith, nat_tests) in
     let long = ap length cut.0 in
     let one = sym c.loop-word.invariant ∙ one_word bs some (omega arith) in
-    let taken = one ∙ ap (λ z. z ∷ words_in (past is_blank bs)) (sym cut.0) ∙ ap (λ z. c.cut.result.0.now ∷ words_in z) (sym cut.1) in
+    let taken = one ∙ ap (λ z. z ∷ words_in (after_first is_blank bs)) (sym cut.0) ∙ ap (λ z. c.cut.result.0.now ∷ words_in z) (sym cut.1) in
     record { steps = taken; goes = let fewer = ap length taken in search rules }
 
 pub loop-word-smaller : goal.loop-word-smaller
@@ -26,7 +27,7 @@ loop-word-smaller c =
     let some : 0 < length bs = grind (arith, nat_tests) in
     let cut = c.cut.ensures is_blank (λ b r k. search (rules, tests)) in
     let e = ap length cut.1 in
-    let l = past_lt is_blank bs some in
+    let l = after_lt is_blank bs some in
     omega arith
 
 pub loop-word-preserved : goal.loop-word-preserved
