@@ -13,8 +13,7 @@ use Rattle.protocol.specs.declared.table.Table.{Table}
 use Rattle.protocol.specs.Rules.{patience}
 use Rattle.protocol.specs.Party.{nobody, on_roll}
 use Rattle.protocol.specs.calls.Tick.{round_ends}
-use Rattle.protocol.specs.Quiet.{clocked, timer_rests, Rests, Quiet}
-use Rattle.protocol.proofs.Members.{any_take}
+use Rattle.protocol.specs.Quiet.{with_clock, timer_rests, Rests, Quiet}
 use Rattle.protocol.proofs.Lifts.{none_of_any}
 use Rattle.protocol.proofs.Numbers.{least_patience}
 use Rattle.group.specs.Patience.{silent_for, DoesFor}
@@ -32,7 +31,7 @@ least_does m sound plan t d e none =
       most = most;
       alike = λ k h.
           let p = get_or t.parties k nobody in
-          let f = none_of_any (silent_for d t.clock) 1 plan.n t.parties nobody refl (sym (any_take (silent_for d t.clock) plan.n t.parties) ∙ none) k h in
+          let f = none_of_any (silent_for d t.clock) plan.n t.parties nobody refl none k h in
           f ∙ sym (not_for_longer p.own.standing d (patience m plan.kind) t.clock p refl most f);
     }
 
@@ -60,7 +59,7 @@ rests_by m plan t d tmin c does em rest k h =
     record { legs = r.legs; timer = rests_for_longer p.own.standing d (patience m plan.kind) m.tmin (c - p.own.since) does.most r.timer }
 
 -- what is quiet by a patience below D is quiet by D
-pub quiet_by : (m : Meaning) (plan : Plan) (t : Table) (d tmin c : ℕ) → DoesFor m plan t d → tmin ≡ m.tmin → round_ends (clocked c t) ≡ false →
+pub quiet_by : (m : Meaning) (plan : Plan) (t : Table) (d tmin c : ℕ) → DoesFor m plan t d → tmin ≡ m.tmin → round_ends (with_clock c t) ≡ false →
     ((k : ℕ) → k < length (take plan.n t.parties) → Rests d tmin c (get_or (take plan.n t.parties) k nobody)) → Quiet m plan t c
 quiet_by m plan t d tmin c does em round rest = record { root = round; parties = rests_by m plan t d tmin c does em rest }
 
@@ -68,5 +67,4 @@ quiet_by m plan t d tmin c does em round rest = record { root = round; parties =
 pub nobody_on_roll : (plan : Plan) (t : Table) → list_any (λ (p : Party). on_roll p.note.roll) (take plan.n t.parties) ≡ false →
     (k : ℕ) → k < plan.n → on_roll (get_or t.parties k nobody).note.roll ≡ false
 nobody_on_roll plan t none =
-    none_of_any (λ (p : Party). on_roll p.note.roll) 1 plan.n t.parties nobody refl
-    (sym (any_take (λ (p : Party). on_roll p.note.roll) plan.n t.parties) ∙ none)
+    none_of_any (λ (p : Party). on_roll p.note.roll) plan.n t.parties nobody refl none

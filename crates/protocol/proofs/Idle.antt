@@ -1,5 +1,5 @@
 -- Rounds that end with nobody on the roll, and in which nothing is due of a party, only move the round.
-use Rattle.std.proofs.Common.{◌≡◌, ℕ, zero, suc, ◌+◌, ◌-◌, ◌*◌, ◌<◌, ◌≤◌, true, false, cond, min, ◌&&◌, ◌||◌, eqb, List, [], length, replicate, get_or, sym, refl, ap, ◌∙◌, subst, ap₂, arith}
+use Rattle.std.proofs.Common.{◌≡◌, ℕ, zero, suc, ◌+◌, ◌-◌, ◌*◌, ◌<◌, ◌≤◌, true, false, cond, min, ◌&&◌, eqb, List, [], length, replicate, get_or, sym, refl, ap, ◌∙◌, subst, ap₂, arith}
 use Rattle.std.proofs.lemmas.Bool.Decides.{nat_tests}
 use Rattle.std.proofs.lemmas.List.{replicate-append-replicate}
 use Rattle.std.specs.List.{slice_get}
@@ -21,6 +21,7 @@ use Rattle.protocol.specs.Runs.{number, perform, unless}
 use Rattle.protocol.specs.Making.{making, goes_on, Making, Same}
 use Rattle.protocol.specs.Quiet.{at_clock, Quiet}
 use Rattle.protocol.specs.Idle.{Idle, state_at_round_end, IdleRoundsOnlyMoveTheRound}
+use Rattle.protocol.proofs.Lifts.{false_any, fold_still}
 use Rattle.protocol.proofs.Walks.{walks_still}
 use Rattle.protocol.proofs.Making.{makes_then}
 use Rattle.protocol.proofs.Quiet.{quiet_asks, quiet_ticks_only_count, ready_later, asked_tick}
@@ -57,16 +58,14 @@ module _ (rules : Rules) (s : State)
 
   none_missed_all : (rounds : ℕ) → any (missed_all rounds) rules.plan.n ps ≡ false
   none_missed_all rounds =
-      let w = walks_still (λ _ _ p. p) (λ _ b p. b || missed_all rounds p) IsOff false
-      (λ k p e. refl) (λ k p e. ap (λ b. b && eqb p.note.misses rounds) e) 1 rules.plan.n ps nobody off in
-      w.1
+      false_any (missed_all rounds) rules.plan.n ps nobody
+      (λ k h. ap (λ b. b && eqb (get_or ps k nobody).note.misses rounds) (off k h))
 
   none_shorter : shortest rules.meaning.waits rules.meaning.tmax rules.plan.n ps ≡ rules.meaning.tmax
   none_shorter =
       let wait : Party → ℕ = λ p. unwrap_or (slice_get rules.meaning.waits p.note.misses) rules.meaning.tmax in
-      let w = walks_still (λ _ _ p. p) (shorter rules.meaning.waits) IsOff rules.meaning.tmax (λ k p e. refl)
-      (λ k p e. ap (λ b. cond b (min rules.meaning.tmax (wait p)) rules.meaning.tmax) e) 1 rules.plan.n ps nobody off in
-      w.1
+      fold_still (shorter rules.meaning.waits) IsOff rules.meaning.tmax
+      (λ p e. ap (λ b. cond b (min rules.meaning.tmax (wait p)) rules.meaning.tmax) e) rules.plan.n ps nobody off
 
   none_sent : (last : ℕ) → after_sending last rules.plan.n next_round ≡ next_round
   none_sent last =

@@ -1,5 +1,6 @@
 -- From one element of a list to each.
-use Rattle.std.proofs.Common.{◌≡◌, ℕ, zero, suc, ◌+◌, ◌<◌, ◌≤◌, Bool, true, false, ◌||◌, List, [], ◌∷◌, length, get_or, set, sym, refl, ap, ◌∙◌, arith}
+use Rattle.std.proofs.Common.{take, ◌≡◌, ℕ, zero, suc, ◌+◌, ◌<◌, ◌≤◌, Bool, true, false, ◌||◌, List, [], ◌∷◌, length, get_or, set, refl, ap, ◌∙◌, arith}
+use Rattle.std.specs.List.{list_any, fold}
 use Rattle.protocol.specs.Walk.{folds, walks}
 use Rattle.protocol.proofs.Walks.{folds_suc, length_walks}
 
@@ -49,61 +50,72 @@ module _ {S A : Type 0} (f : ℕ → S → A → A) (g : ℕ → S → A → S) 
   pub folds_next : (j : ℕ) (s : S) (xs : List A) (d : A) (k : ℕ) → k < length xs → folds g j (suc k) s xs ≡ g (k + j) (folds g j k s xs) (get_or xs k d)
   folds_next j s xs d k h = folds_suc f g j k s xs d h ∙ ap (λ i. g i (folds g j k s xs) (get_or xs k d)) (omega arith)
 
-module _ {A : Type 0} (f : A → Bool) where
-  any_start : (j n : ℕ) (b : Bool) (xs : List A) → folds (λ _ b x. b || f x) j n b xs ≡ false → b ≡ false
-  any_start j zero b xs e = e
-  any_start j (suc n) b [] e = e
-  any_start j (suc n) true (x ∷ xs) e = any_start (suc j) n true xs e
-  any_start j (suc n) false (x ∷ xs) e = refl
+or_first : (a b : Bool) → (a || b) ≡ false → a ≡ false
+or_first true b e = e
+or_first false b e = refl
 
+or_rest : (a b : Bool) → (a || b) ≡ false → b ≡ false
+or_rest true b e = absurd (grind arith)
+or_rest false b e = e
+
+module _ {A : Type 0} (f : A → Bool) where
   pub any_false :
-      (j n : ℕ) (xs : List A) (d : A) → folds (λ _ b x. b || f x) j n false xs ≡ false →
+      (n : ℕ) (xs : List A) (d : A) → list_any f (take n xs) ≡ false →
       (k : ℕ) → k < n → n ≤ length xs → f (get_or xs k d) ≡ false
-  any_false j zero xs d e k h long = absurd (omega arith)
-  any_false j (suc n) [] d e k h long = absurd (omega arith)
-  any_false j (suc n) (x ∷ xs) d e zero h long = any_start (suc j) n (f x) xs e
-  any_false j (suc n) (x ∷ xs) d e (suc k) h long =
-      any_false (suc j) n xs d (ap (λ b. folds (λ _ b x. b || f x) (suc j) n b xs) (sym (any_start (suc j) n (f x) xs e)) ∙ e) k (omega arith) (omega arith)
+  any_false zero xs d e k h long = absurd (omega arith)
+  any_false (suc n) [] d e k h long = absurd (omega arith)
+  any_false (suc n) (x ∷ xs) d e zero h long = or_first (f x) (list_any f (take n xs)) e
+  any_false (suc n) (x ∷ xs) d e (suc k) h long =
+      any_false n xs d (or_rest (f x) (list_any f (take n xs)) e) k (omega arith) (omega arith)
 
   -- also past the end of the list, where the default is not such
   pub none_of_any :
-      (j n : ℕ) (xs : List A) (d : A) → f d ≡ false → folds (λ _ b x. b || f x) j n false xs ≡ false → (k : ℕ) → k < n → f (get_or xs k d) ≡ false
-  none_of_any j zero xs d not_d e k h = absurd (omega arith)
-  none_of_any j (suc n) [] d not_d e k h = not_d
-  none_of_any j (suc n) (x ∷ xs) d not_d e zero h = any_start (suc j) n (f x) xs e
-  none_of_any j (suc n) (x ∷ xs) d not_d e (suc k) h =
-      none_of_any (suc j) n xs d not_d (ap (λ b. folds (λ _ b x. b || f x) (suc j) n b xs) (sym (any_start (suc j) n (f x) xs e)) ∙ e) k (omega arith)
+      (n : ℕ) (xs : List A) (d : A) → f d ≡ false → list_any f (take n xs) ≡ false → (k : ℕ) → k < n → f (get_or xs k d) ≡ false
+  none_of_any zero xs d not_d e k h = absurd (omega arith)
+  none_of_any (suc n) [] d not_d e k h = not_d
+  none_of_any (suc n) (x ∷ xs) d not_d e zero h = or_first (f x) (list_any f (take n xs)) e
+  none_of_any (suc n) (x ∷ xs) d not_d e (suc k) h =
+      none_of_any n xs d not_d (or_rest (f x) (list_any f (take n xs)) e) k (omega arith)
 
   pub false_any :
-      (j n : ℕ) (xs : List A) (d : A) → n ≤ length xs → ((k : ℕ) → k < n → f (get_or xs k d) ≡ false) → folds (λ _ b x. b || f x) j n false xs ≡ false
-  false_any j zero xs d long h = refl
-  false_any j (suc n) [] d long h = refl
-  false_any j (suc n) (x ∷ xs) d long h =
-      ap (λ b. folds (λ _ b x. b || f x) (suc j) n b xs) (h 0 (omega arith)) ∙ false_any (suc j) n xs d (omega arith) (λ k i. h (suc k) (omega arith))
+      (n : ℕ) (xs : List A) (d : A) → ((k : ℕ) → k < n → f (get_or xs k d) ≡ false) → list_any f (take n xs) ≡ false
+  false_any zero xs d h = refl
+  false_any (suc n) [] d h = refl
+  false_any (suc n) (x ∷ xs) d h =
+      ap (λ b. b || list_any f (take n xs)) (h 0 (omega arith)) ∙ false_any n xs d (λ k i. h (suc k) (omega arith))
 
-module _ {A : Type 0} (g : ℕ → ℕ → A → ℕ) (falls : (k s : ℕ) (x : A) → g k s x ≤ s) where
-  pub folds_falls : (k n s : ℕ) (xs : List A) → folds g k n s xs ≤ s
-  folds_falls k zero s xs = omega arith
-  folds_falls k (suc n) s [] = omega arith
-  folds_falls k (suc n) s (x ∷ xs) = omega (arith, falls k s x, folds_falls (suc k) n (g k s x) xs)
+module _ {A : Type 0} (g : ℕ → A → ℕ) (falls : (s : ℕ) (x : A) → g s x ≤ s) where
+  pub fold_falls : (s : ℕ) (xs : List A) → fold g s xs ≤ s
+  fold_falls s [] = omega arith
+  fold_falls s (x ∷ xs) = omega (arith, falls s x, fold_falls (g s x) xs)
 
   -- a fold that never rises ends below what any element gives
-  pub folds_below :
-      (P : A → Type 0) (v : A → ℕ) → ((k s : ℕ) (x : A) → P x → g k s x ≤ v x) →
-      (j n s : ℕ) (xs : List A) (d : A) (k : ℕ) → k < n → n ≤ length xs → P (get_or xs k d) → folds g j n s xs ≤ v (get_or xs k d)
-  folds_below P v low j zero s xs d k h long p = absurd (omega arith)
-  folds_below P v low j (suc n) s [] d k h long p = absurd (omega arith)
-  folds_below P v low j (suc n) s (x ∷ xs) d zero h long p = omega (arith, low j s x p, folds_falls (suc j) n (g j s x) xs)
-  folds_below P v low j (suc n) s (x ∷ xs) d (suc k) h long p = folds_below P v low (suc j) n (g j s x) xs d k (omega arith) (omega arith) p
+  pub fold_below :
+      (P : A → Type 0) (v : A → ℕ) → ((s : ℕ) (x : A) → P x → g s x ≤ v x) →
+      (n s : ℕ) (xs : List A) (d : A) (k : ℕ) → k < n → n ≤ length xs → P (get_or xs k d) → fold g s (take n xs) ≤ v (get_or xs k d)
+  fold_below P v low zero s xs d k h long p = absurd (omega arith)
+  fold_below P v low (suc n) s [] d k h long p = absurd (omega arith)
+  fold_below P v low (suc n) s (x ∷ xs) d zero h long p = omega (arith, low s x p, fold_falls (g s x) (take n xs))
+  fold_below P v low (suc n) s (x ∷ xs) d (suc k) h long p = fold_below P v low n (g s x) xs d k (omega arith) (omega arith) p
 
--- and stays above a floor of each step
-pub folds_above :
-    {A : Type 0} (g : ℕ → ℕ → A → ℕ) (P : A → Type 0) (m : ℕ) → ((k s : ℕ) (x : A) → P x → m ≤ s → m ≤ g k s x) →
-    (j n s : ℕ) (xs : List A) (d : A) → n ≤ length xs → ((k : ℕ) → k < n → P (get_or xs k d)) → m ≤ s → m ≤ folds g j n s xs
-folds_above g P m step j zero s xs d long h low = low
-folds_above g P m step j (suc n) s [] d long h low = low
-folds_above g P m step j (suc n) s (x ∷ xs) d long h low =
-    folds_above g P m step (suc j) n (g j s x) xs d (omega arith) (λ k i. h (suc k) (omega arith)) (step j s x (h 0 (omega arith)) low)
+-- a fold at whose state no element changes it
+pub fold_still :
+    {S A : Type 0} (g : S → A → S) (P : A → Type 0) (s : S) → ((x : A) → P x → g s x ≡ s) →
+    (n : ℕ) (xs : List A) (d : A) → ((k : ℕ) → k < n → P (get_or xs k d)) → fold g s (take n xs) ≡ s
+fold_still g P s still zero xs d h = refl
+fold_still g P s still (suc n) [] d h = refl
+fold_still g P s still (suc n) (x ∷ xs) d h =
+    ap (λ t. fold g t (take n xs)) (still x (h 0 (omega arith)))
+    ∙ fold_still g P s still n xs d (λ k i. h (suc k) (omega arith))
+
+-- a fold of steps that stay above a floor stays above it
+pub fold_above :
+    {A : Type 0} (g : ℕ → A → ℕ) (P : A → Type 0) (m : ℕ) → ((s : ℕ) (x : A) → P x → m ≤ s → m ≤ g s x) →
+    (n s : ℕ) (xs : List A) (d : A) → n ≤ length xs → ((k : ℕ) → k < n → P (get_or xs k d)) → m ≤ s → m ≤ fold g s (take n xs)
+fold_above g P m step zero s xs d long h low = low
+fold_above g P m step (suc n) s [] d long h low = low
+fold_above g P m step (suc n) s (x ∷ xs) d long h low =
+    fold_above g P m step n (g s x) xs d (omega arith) (λ k i. h (suc k) (omega arith)) (step s x (h 0 (omega arith)) low)
 
 pub get_or_any : {A : Type 0} (xs : List A) (k : ℕ) (d e : A) → k < length xs → get_or xs k d ≡ get_or xs k e
 get_or_any [] k d e h = absurd (omega arith)

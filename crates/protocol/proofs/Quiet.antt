@@ -1,5 +1,5 @@
 -- Ticks at which nothing is due only count the clock.
-use Rattle.std.proofs.Common.{◌≡◌, ℕ, zero, suc, ◌+◌, ◌-◌, ◌*◌, ◌<◌, ◌≤◌, Bool, true, false, not, ◌||◌, ltb, leb, List, length, replicate, sym, refl, ap, ◌∙◌, subst, ap₂, arith, lt-ltb, eqb-true}
+use Rattle.std.proofs.Common.{◌≡◌, ℕ, zero, suc, ◌+◌, ◌-◌, ◌*◌, ◌<◌, ◌≤◌, Bool, true, false, not, ltb, leb, List, length, replicate, sym, refl, ap, ◌∙◌, subst, ap₂, arith, lt-ltb, eqb-true}
 use Rattle.std.proofs.lemmas.Bool.Decides.{nat_tests}
 use Rattle.pace.specs.Meaning.{Meaning}
 use Rattle.protocol.specs.declared.party.Party.{Party}
@@ -16,7 +16,8 @@ use Rattle.protocol.specs.State.{State}
 use Rattle.protocol.specs.Questions.{asks, log_asks, is_own_log}
 use Rattle.protocol.specs.Runs.{number, perform, unless}
 use Rattle.protocol.specs.Making.{making, Same}
-use Rattle.protocol.specs.Quiet.{clocked, at_clock, timer_rests, Rests, Quiet, QuietUntil}
+use Rattle.protocol.specs.Quiet.{with_clock, at_clock, timer_rests, Rests, Quiet, QuietUntil}
+use Rattle.protocol.proofs.Lifts.{false_any}
 use Rattle.protocol.proofs.Walks.{walks_still}
 use Rattle.protocol.proofs.Making.{same_trans, tick_on}
 
@@ -47,7 +48,7 @@ pub never_quiet : (m : Meaning) (plan : Plan) (t : Table) → QuietUntil m plan 
 never_quiet m plan t = record { limit = λ h. omega arith; quiet = λ c from before. absurd (omega (arith, before)) }
 
 -- what is quiet from the clock on is quiet from a tick later on
-pub quiet_later : (m : Meaning) (plan : Plan) (t : Table) (b : ℕ) → t.clock < b → QuietUntil m plan t b → QuietUntil m plan (clocked (t.clock + 1) t) b
+pub quiet_later : (m : Meaning) (plan : Plan) (t : Table) (b : ℕ) → t.clock < b → QuietUntil m plan t b → QuietUntil m plan (with_clock (t.clock + 1) t) b
 quiet_later m plan t b h u =
     record { limit = λ after_clock. u.limit h; quiet = λ c from before. let q = u.quiet c (omega (arith, from)) before in record { root = q.root; parties = q.parties } }
 
@@ -56,9 +57,7 @@ module _ (rules : Rules) where
   log_ready s = log_asks (2 * rules.plan.n) rules.room s ≡ 0
 
   none_due : (t : Table) (c : ℕ) → Quiet rules.meaning rules.plan t c → any (due c) rules.plan.n t.parties ≡ false
-  none_due t c q =
-      (walks_still (λ _ _ p. p) (λ _ b p. b || due c p) (λ p. due c p ≡ false) false (λ k p e. refl) (λ k p e. e) 1 rules.plan.n t.parties nobody
-      (λ k h. (q.parties k h).legs)).1
+  none_due t c q = false_any (due c) rules.plan.n t.parties nobody (λ k h. (q.parties k h).legs)
 
   -- where nothing is due, the log alone may refuse a tick
   pub quiet_asks : (s : State) → s.table.clock < 4000000000 → Quiet rules.meaning rules.plan s.table s.table.clock → number rules Tick s ≡ log_asks (2 * rules.plan.n) rules.room s

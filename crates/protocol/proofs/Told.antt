@@ -11,7 +11,7 @@ use Rattle.protocol.specs.Rules.{Rules}
 use Rattle.protocol.specs.Walk.{folds, walks}
 use Rattle.protocol.specs.Party.{nobody}
 use Rattle.protocol.specs.State.{State, the}
-use Rattle.protocol.specs.Told.{Account, account_of, after_reading, first_account, root_as, root_told, tells_as, told_of}
+use Rattle.protocol.specs.Told.{Account, account_of, after_reading, first_account, root_as, root_in, tells_as, account_in}
 
 -- what records make of x
 
@@ -80,7 +80,7 @@ module _ (rules : Rules) (i : ℕ) (lo : 1 ≤ i) (hi : i ≤ rules.plan.n) wher
   m = rules.meaning
 
   abbrev T : List Happening → Account
-  T log = told_of kind i log
+  T log = account_in kind i log
 
   abbrev account_step : Account → Happening → Account
   account_step a h = tells_as h.kind h.tick a
@@ -131,15 +131,15 @@ module _ (rules : Rules) (i : ℕ) (lo : 1 ≤ i) (hi : i ≤ rules.plan.n) wher
 abbrev pub root_step : Root → Happening → Root
 root_step r h = root_as h.kind h.tick r
 
-pub root_idle : (log : List Happening) (h : Happening) → ((r : Root) → root_step r h ≡ r) → root_told (log ++ h ∷ []) ≡ root_told log
+pub root_idle : (log : List Happening) (h : Happening) → ((r : Root) → root_step r h ≡ r) → root_in (log ++ h ∷ []) ≡ root_in log
 root_idle log h e = read_idle root_step 0 Running log h e
 
-pub root_other : (log : List Happening) (h : Happening) → 1 ≤ h.owner → root_told (log ++ h ∷ []) ≡ root_told log
+pub root_other : (log : List Happening) (h : Happening) → 1 ≤ h.owner → root_in (log ++ h ∷ []) ≡ root_in log
 root_other log h e = read_other root_step 0 Running log h (λ z. absurd (omega arith))
 
-pub root_conds : (b : Bool) (x y : List Happening) (r : Root) → root_told x ≡ r → root_told y ≡ r → root_told (cond b x y) ≡ r
+pub root_conds : (b : Bool) (x y : List Happening) (r : Root) → root_in x ≡ r → root_in y ≡ r → root_in (cond b x y) ≡ r
 root_conds true x y r e f = e
 root_conds false x y r e f = f
 
 abbrev pub TellsRoot : State → Type 0
-TellsRoot s = root_told s.log ≡ s.table.root
+TellsRoot s = root_in s.log ≡ s.table.root

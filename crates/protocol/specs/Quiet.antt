@@ -12,11 +12,11 @@ use Rattle.protocol.specs.Party.{nobody}
 use Rattle.protocol.specs.State.{State}
 
 -- the table, and the table with its log, at another clock
-abbrev pub clocked : ℕ → Table → Table
-clocked c t = record t { clock = c }
+abbrev pub with_clock : ℕ → Table → Table
+with_clock c t = record t { clock = c }
 
 abbrev pub at_clock : ℕ → State → State
-at_clock c s = record { table = clocked c s.table; log = s.log }
+at_clock c s = record { table = with_clock c s.table; log = s.log }
 
 -- a timer does nothing after so many ticks of silence: only a live party has one,
 -- its patience lasts, and it does not call again
@@ -32,7 +32,7 @@ pub record Rests (patience tmin c : ℕ) (p : Party) : Type 0 where
 
 -- nothing is due at c: no round ends, and each party of the plan rests
 pub record Quiet (m : Meaning) (plan : Plan) (t : Table) (c : ℕ) : Type 0 where
-  pub root : round_ends (clocked c t) ≡ false
+  pub root : round_ends (with_clock c t) ≡ false
   pub parties :
       (k : ℕ) → k < plan.n →
       Rests (patience m plan.kind) m.tmin c (slice_index_or t.parties k nobody)

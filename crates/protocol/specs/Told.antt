@@ -44,35 +44,35 @@ first_account Expanding = account Outside 0 Off
 first_account Dynamic = account Outside 0 Off
 
 -- the root's beat arrives at tick t: a live party has heard, and a joining one is in
-abbrev pub heard_at : ℕ → Standing → Account → Account
-heard_at t Outside a = a
-heard_at t (Live Joins) a = account (Live In) t a.roll
-heard_at t (Live In) a = account (Live In) t a.roll
-heard_at t (Live Leaves) a = account (Live Leaves) t a.roll
-heard_at t (Ended how e g) a = a
+abbrev pub after_hearing : ℕ → Standing → Account → Account
+after_hearing t Outside a = a
+after_hearing t (Live Joins) a = account (Live In) t a.roll
+after_hearing t (Live In) a = account (Live In) t a.roll
+after_hearing t (Live Leaves) a = account (Live Leaves) t a.roll
+after_hearing t (Ended how e g) a = a
 
 -- a live party ends at tick t
-abbrev pub ended_at : Ending → ℕ → Standing → Account → Account
-ended_at how t Outside a = a
-ended_at how t (Live g) a = account (Ended how t g) a.own.since a.roll
-ended_at how t (Ended how' e g) a = a
+abbrev pub after_ending : Ending → ℕ → Standing → Account → Account
+after_ending how t Outside a = a
+after_ending how t (Live g) a = account (Ended how t g) a.own.since a.roll
+after_ending how t (Ended how' e g) a = a
 
 -- what a record of a party makes of its account
 abbrev pub tells_as : HappeningKind → ℕ → Account → Account
 tells_as Sent t a = a
-tells_as Arrived t a = heard_at t a.own.standing a
+tells_as Arrived t a = after_hearing t a.own.standing a
 tells_as Lost t a = a
 tells_as Enrolled t a = record { own = a.own; roll = On }
 tells_as Struck t a = record { own = a.own; roll = IsStruck }
-tells_as Crashed t a = ended_at ByCrash t a.own.standing a
-tells_as Stopped t a = ended_at ByStop t a.own.standing a
-tells_as Left t a = ended_at ByLeaving t a.own.standing a
+tells_as Crashed t a = after_ending ByCrash t a.own.standing a
+tells_as Stopped t a = after_ending ByStop t a.own.standing a
+tells_as Left t a = after_ending ByLeaving t a.own.standing a
 tells_as Joining t a = account (Live Joins) t a.roll
 tells_as Leaving t a = account (Live Leaves) a.own.since a.roll
 
 -- what the log tells of party i
-abbrev pub told_of : GroupKind → ℕ → List Happening → Account
-told_of kind i log = after_reading (λ a h. tells_as h.kind h.tick a) i (first_account kind) log
+abbrev pub account_in : GroupKind → ℕ → List Happening → Account
+account_in kind i log = after_reading (λ a h. tells_as h.kind h.tick a) i (first_account kind) log
 
 -- what a record of the root makes of it
 abbrev pub root_as : HappeningKind → ℕ → Root → Root
@@ -88,13 +88,13 @@ root_as Joining t r = r
 root_as Leaving t r = r
 
 -- what the log tells of the root, which is party 0
-abbrev pub root_told : List Happening → Root
-root_told log = after_reading (λ r h. root_as h.kind h.tick r) 0 Running log
+abbrev pub root_in : List Happening → Root
+root_in log = after_reading (λ r h. root_as h.kind h.tick r) 0 Running log
 
 -- the log tells where each party stands, when it last heard and whether it is on the roll;
 -- and how the root is
 pub record TellsTheGroup (rules : Rules) (s : State) : Type 0 where
   pub party :
       (i : ℕ) → 1 ≤ i → i ≤ rules.plan.n →
-      told_of rules.plan.kind i s.log ≡ account_of (the i s.table)
-  pub root : root_told s.log ≡ s.table.root
+      account_in rules.plan.kind i s.log ≡ account_of (the i s.table)
+  pub root : root_in s.log ≡ s.table.root

@@ -43,7 +43,6 @@ impl<P: Pace> Group<P> {
     }
 }
 
-#[tactic(auto, using(protocol::proofs::Members::any_take))]
 pub(crate) fn ask_tick(
     plan: &Plan,
     table: &Table,

@@ -1,7 +1,7 @@
 // The next tick at which something is due: each tick before it only counts the clock.
 ghost use Rattle.std.specs.Prelude.{◌≡◌, ℕ, ◌<◌, ◌≤◌, false};
 ghost use Rattle.protocol.specs.calls.Tick.{round_ends};
-ghost use Rattle.protocol.specs.Quiet.{clocked, QuietUntil};
+ghost use Rattle.protocol.specs.Quiet.{with_clock, QuietUntil};
 
 use crate::dues::timer::Timer;
 use pace::Pace;
@@ -10,7 +10,7 @@ use protocol::table::{CLOCK_LIMIT, Root, Table};
 
 // The end of the round of a running root.
 fn round_due(table: &Table) -> u32
-    ensures { (c : ℕ) → c < result → round_ends (clocked c table.now) ≡ false }
+    ensures { (c : ℕ) → c < result → round_ends (with_clock c table.now) ≡ false }
 {
     match table.root {
         Root::Running => table.start.saturating_add(table.length),

@@ -15,7 +15,7 @@ use Rattle.protocol.specs.calls.Crash.{after_crash, can_crash, crashes, root_aft
 use Rattle.protocol.specs.Kept.{Kept, LawfulTerms, Scene, Terms, Whole}
 use Rattle.protocol.specs.Rules.{Rules}
 use Rattle.protocol.specs.State.{State, happening, runs, the, with_record, with_root}
-use Rattle.protocol.specs.Told.{Account, account_of, root_told, tells_as, told_of}
+use Rattle.protocol.specs.Told.{Account, account_of, root_in, tells_as, account_in}
 use Rattle.protocol.specs.Strikes.{IsStruck}
 use Rattle.protocol.proofs.Onward.{told}
 use Rattle.protocol.proofs.Legs.{stays}
@@ -86,10 +86,10 @@ module _ (rules : Rules) (i : ℕ) (lo : 1 ≤ i) (hi : i ≤ rules.plan.n) wher
       let h = happening c (suc j) HasCrashed (length s.log) in
       let p = the (suc j) s.table in
       account_changes rules i lo hi (suc j) (crashes c p) s.table.parties s.log (s.log ++ h ∷ []) (omega arith) long e
-      (λ here f. account_mine rules i lo hi s.log h here ∙ crashes_told p.own.standing c p (told_of rules.plan.kind i s.log) refl f)
+      (λ here f. account_mine rules i lo hi s.log h here ∙ crashes_told p.own.standing c p (account_in rules.plan.kind i s.log) refl f)
       (λ there. account_other rules i lo hi s.log h there)
 
-root_crash_tells_root : (r : Root) (c : ℕ) (log : List Happening) → runs r ≡ true → root_told (with_record c 0 HasCrashed log) ≡ root_after_crash r c
+root_crash_tells_root : (r : Root) (c : ℕ) (log : List Happening) → runs r ≡ true → root_in (with_record c 0 HasCrashed log) ≡ root_after_crash r c
 root_crash_tells_root Running c log e = read_mine root_step 0 Running log (happening c 0 HasCrashed (length log)) refl
 root_crash_tells_root (Down how at) c log e = absurd (grind arith)
 

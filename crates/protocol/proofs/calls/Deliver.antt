@@ -22,7 +22,7 @@ use Rattle.protocol.specs.Rules.{Rules}
 use Rattle.protocol.specs.State.{State, happening, runs, the, with_linked, with_record}
 use Rattle.protocol.specs.Beats.{OtherEnd, SentBy, edges}
 use Rattle.protocol.specs.Deliveries.{receiver}
-use Rattle.protocol.specs.Told.{account_of, root_told, tells_as, told_of}
+use Rattle.protocol.specs.Told.{account_of, root_in, tells_as, account_in}
 use Rattle.protocol.specs.Strikes.{IsStruck}
 use Rattle.protocol.proofs.Onward.{Onward, arrived, sent_push, stay, told}
 use Rattle.protocol.proofs.Legs.{Turned, put_reply, stays}
@@ -185,31 +185,31 @@ hears_told (Live Leaves) c place l p e = grind arith
 hears_told (Ended how at g) c place l p e = grind arith
 
 module _ (rules : Rules) (i : ℕ) (lo : 1 ≤ i) (hi : i ≤ rules.plan.n) where
-  answer_told_there : (roll : Roll) (b : Bool) (c j : ℕ) (log : List Happening) → (j ≡ i → ⊥) → told_of rules.plan.kind i (answer_log roll b c j log) ≡ told_of rules.plan.kind i log
+  answer_told_there : (roll : Roll) (b : Bool) (c j : ℕ) (log : List Happening) → (j ≡ i → ⊥) → account_in rules.plan.kind i (answer_log roll b c j log) ≡ account_in rules.plan.kind i log
   answer_told_there StruckOff b c j log h = refl
   answer_told_there On true c j log h = account_other rules i lo hi log _ h
   answer_told_there Off true c j log h = account_other rules i lo hi log _ h
   answer_told_there On false c j log h = refl
   answer_told_there Off false c j log h = account_other rules i lo hi log _ h
 
-  answer_told_here : (roll : Roll) (b : Bool) (c j : ℕ) (log : List Happening) (p : Party) → j ≡ i → p.note.roll ≡ roll → told_of rules.plan.kind i log ≡ account_of p →
-      told_of rules.plan.kind i (answer_log roll b c j log) ≡ account_of (answers b p)
+  answer_told_here : (roll : Roll) (b : Bool) (c j : ℕ) (log : List Happening) (p : Party) → j ≡ i → p.note.roll ≡ roll → account_in rules.plan.kind i log ≡ account_of p →
+      account_in rules.plan.kind i (answer_log roll b c j log) ≡ account_of (answers b p)
   answer_told_here StruckOff b c j log p h is e = grind arith
   answer_told_here On true c j log p h is e = let f = account_mine rules i lo hi log (happening c j WasStruck (length log)) h in grind arith
   answer_told_here Off true c j log p h is e = let f = account_mine rules i lo hi log (happening c j WasStruck (length log)) h in grind arith
   answer_told_here On false c j log p h is e = grind arith
   answer_told_here Off false c j log p h is e = let f = account_mine rules i lo hi log (happening c j Enrolled (length log)) h in grind arith
 
-  heed_told_here : (r : Root) (b : Bool) (c j : ℕ) (log : List Happening) (p : Party) → j ≡ i → told_of rules.plan.kind i log ≡ account_of p →
-      told_of rules.plan.kind i (cond (runs r) (answer_log p.note.roll b c j log) log) ≡ account_of (heeds r b p)
+  heed_told_here : (r : Root) (b : Bool) (c j : ℕ) (log : List Happening) (p : Party) → j ≡ i → account_in rules.plan.kind i log ≡ account_of p →
+      account_in rules.plan.kind i (cond (runs r) (answer_log p.note.roll b c j log) log) ≡ account_of (heeds r b p)
   heed_told_here Running b c j log p h e = answer_told_here p.note.roll b c j log p h refl e
   heed_told_here (Down how at) b c j log p h e = e
 
   arrival_there : (x : Bool) (r : Root) (b : Beat) (c j : ℕ) (p : Party) (log : List Happening) → (j ≡ i → ⊥) →
-      told_of rules.plan.kind i (cond x
+      account_in rules.plan.kind i (cond x
       (cond (live p.own.standing) (with_record c j Sent (with_linked c j Arrived b.place log)) (with_linked c j Arrived b.place log))
       (cond (runs r) (answer_log p.note.roll b.parting c j (with_linked c 0 Arrived b.place log)) (with_linked c 0 Arrived b.place log)))
-      ≡ told_of rules.plan.kind i log
+      ≡ account_in rules.plan.kind i log
   arrival_there true r b c j p log h =
       let e = account_other rules i lo hi log (happening c j Arrived b.place) h in
       account_cond rules i lo hi (live p.own.standing) _ _ _ (account_idle rules i lo hi (with_linked c j Arrived b.place log) _ (λ a. refl) ∙ e) e
@@ -219,14 +219,14 @@ module _ (rules : Rules) (i : ℕ) (lo : 1 ≤ i) (hi : i ≤ rules.plan.n) wher
 
   -- of a beat on leg 1 (x), 2 (y) or 3 (z)
   arrival_here : (x y z : Bool) (r : Root) (b : Beat) (c place j : ℕ) (p : Party) (log : List Happening) → j ≡ i →
-      cond x p.legs.out (cond y p.legs.reply (cond z p.legs.entry None)) ≡ Some b → told_of rules.plan.kind i log ≡ account_of p →
-      told_of rules.plan.kind i (cond x
+      cond x p.legs.out (cond y p.legs.reply (cond z p.legs.entry None)) ≡ Some b → account_in rules.plan.kind i log ≡ account_of p →
+      account_in rules.plan.kind i (cond x
       (cond (live p.own.standing) (with_record c j Sent (with_linked c j Arrived b.place log)) (with_linked c j Arrived b.place log))
       (cond (runs r) (answer_log p.note.roll b.parting c j (with_linked c 0 Arrived b.place log)) (with_linked c 0 Arrived b.place log)))
       ≡ account_of (cond x (hears_as p.own.standing c place b.last (off_out p))
       (cond y (heeds r b.parting (off_reply p)) (cond z (heeds r b.parting (off_entry p)) p)))
   arrival_here true y z r b c place j p log h held e =
-      let f : told_of rules.plan.kind i (with_linked c j Arrived b.place log) ≡ account_of (hears_as p.own.standing c place b.last (off_out p)) =
+      let f : account_in rules.plan.kind i (with_linked c j Arrived b.place log) ≡ account_of (hears_as p.own.standing c place b.last (off_out p)) =
       account_mine rules i lo hi log (happening c j Arrived b.place) h ∙ ap (tells_as Arrived c) e ∙ sym (hears_told p.own.standing c place b.last (off_out p) refl) in
       account_cond rules i lo hi (live p.own.standing) _ _ _ (account_idle rules i lo hi (with_linked c j Arrived b.place log) _ (λ a. refl) ∙ f) f
   arrival_here false true z r b c place j p log h held e =
@@ -244,7 +244,7 @@ module _ (rules : Rules) (i : ℕ) (lo : 1 ≤ i) (hi : i ≤ rules.plan.n) wher
       (λ here f. arrival_here (eqb leg 1) (eqb leg 2) (eqb leg 3) t.root b t.clock _ j (the j t) s.log here held f)
       (λ there. arrival_there (eqb leg 1) t.root b t.clock j (the j t) s.log there)
 
-root_answer : (roll : Roll) (b : Bool) (c j : ℕ) (log : List Happening) → root_told (answer_log roll b c j log) ≡ root_told log
+root_answer : (roll : Roll) (b : Bool) (c j : ℕ) (log : List Happening) → root_in (answer_log roll b c j log) ≡ root_in log
 root_answer StruckOff b c j log = refl
 root_answer On true c j log = root_idle log (happening c j WasStruck (length log)) (λ r. refl)
 root_answer Off true c j log = root_idle log (happening c j WasStruck (length log)) (λ r. refl)
@@ -252,10 +252,10 @@ root_answer On false c j log = refl
 root_answer Off false c j log = root_idle log (happening c j Enrolled (length log)) (λ r. refl)
 
 root_arrival : (x : Bool) (r : Root) (b : Beat) (c j : ℕ) (p : Party) (log : List Happening) →
-    root_told (cond x
+    root_in (cond x
     (cond (live p.own.standing) (with_record c j Sent (with_linked c j Arrived b.place log)) (with_linked c j Arrived b.place log))
     (cond (runs r) (answer_log p.note.roll b.parting c j (with_linked c 0 Arrived b.place log)) (with_linked c 0 Arrived b.place log)))
-    ≡ root_told log
+    ≡ root_in log
 root_arrival true r b c j p log =
     let e = root_idle log (happening c j Arrived b.place) (λ r. refl) in
     root_conds (live p.own.standing) _ _ _ (root_idle (with_linked c j Arrived b.place log) (happening c j Sent (length (with_linked c j Arrived b.place log))) (λ r. refl) ∙ e) e

@@ -1,5 +1,5 @@
 -- A tick keeps what holds of each run.
-use Rattle.std.proofs.Common.{Bool, List, None, Option, Some, [], ap, arith, cond, eqb, false, get_or, inl, inr, leb, length, mod-eq_of_lt, refl, subst, suc, sym, true, unwrap_or, zero, ℕ, ◌%◌, ◌&&◌, ◌+◌, ◌-◌, ◌<◌, ◌∙◌, ◌∷◌, ◌≡◌, ◌≤◌, ◌⊎◌}
+use Rattle.std.proofs.Common.{take, Bool, List, None, Option, Some, [], ap, arith, cond, eqb, false, get_or, inl, inr, leb, length, mod-eq_of_lt, refl, subst, suc, sym, true, unwrap_or, zero, ℕ, ◌%◌, ◌&&◌, ◌+◌, ◌-◌, ◌<◌, ◌∙◌, ◌∷◌, ◌≡◌, ◌≤◌, ◌⊎◌}
 use native.Mathlib.Nat.{add-mod, mod-mod}
 use Rattle.std.proofs.lemmas.Bool.Decides.{nat_tests}
 use Rattle.std.proofs.lemmas.Option.{slice_get-get_or}
@@ -28,9 +28,9 @@ use Rattle.protocol.specs.Rules.{Rules, patience, trip}
 use Rattle.protocol.specs.State.{State, happening, runs, with_record}
 use Rattle.protocol.specs.Beats.{FreeFor}
 use Rattle.protocol.specs.Walk.{folds}
-use Rattle.protocol.specs.Told.{account_of, root_told, told_of}
+use Rattle.protocol.specs.Told.{account_of, root_in, account_in}
 use Rattle.protocol.specs.Strikes.{IsStruck}
-use Rattle.protocol.proofs.Lifts.{any_false, false_any, folds_above, folds_below, folds_falls, walks_at, walks_each, walks_long}
+use Rattle.protocol.proofs.Lifts.{any_false, false_any, fold_above, fold_below, fold_falls, walks_at, walks_each, walks_long}
 use Rattle.protocol.proofs.Onward.{Onward, folds_onward, sent_push, stay, told}
 use Rattle.protocol.proofs.Legs.{Turned, put_entry, put_out, stays}
 use Rattle.protocol.proofs.Clock.{rounded_clock}
@@ -149,14 +149,14 @@ module _ (rules : Rules) (sound : Lawful rules.meaning) where
 
   -- a round ends
 
-  shorter_falls : (k w : ℕ) (p : Party) → shorter rules.meaning.waits k w p ≤ w
-  shorter_falls k w p = grind (arith, nat_tests)
+  shorter_falls : (w : ℕ) (p : Party) → shorter rules.meaning.waits w p ≤ w
+  shorter_falls w p = grind (arith, nat_tests)
 
-  shorter_below : (k w : ℕ) (p : Party) → (p.note.roll ≡ On) × (p.note.misses < length rules.meaning.waits) → shorter rules.meaning.waits k w p ≤ get_or rules.meaning.waits p.note.misses 0
-  shorter_below k w p h = let e = slice_get-get_or rules.meaning.waits p.note.misses 0 h.1 in grind (arith, nat_tests)
+  shorter_below : (w : ℕ) (p : Party) → (p.note.roll ≡ On) × (p.note.misses < length rules.meaning.waits) → shorter rules.meaning.waits w p ≤ get_or rules.meaning.waits p.note.misses 0
+  shorter_below w p h = let e = slice_get-get_or rules.meaning.waits p.note.misses 0 h.1 in grind (arith, nat_tests)
 
-  shorter_above : (k w : ℕ) (p : Party) → p.note.misses < length rules.meaning.waits → rules.meaning.tmin ≤ w → rules.meaning.tmin ≤ shorter rules.meaning.waits k w p
-  shorter_above k w p h low =
+  shorter_above : (w : ℕ) (p : Party) → p.note.misses < length rules.meaning.waits → rules.meaning.tmin ≤ w → rules.meaning.tmin ≤ shorter rules.meaning.waits w p
+  shorter_above w p h low =
       let e = slice_get-get_or rules.meaning.waits p.note.misses 0 h in let f = sound.floor p.note.misses h in grind (arith, nat_tests)
 
   -- the party at k after the count
@@ -176,7 +176,7 @@ module _ (rules : Rules) (sound : Lawful rules.meaning) where
     -- where no loss or crash was, no party has missed all rounds
     none_missed_all : q ≡ true → any (missed_all (length rules.meaning.waits)) rules.plan.n counted ≡ false
     none_missed_all good =
-        false_any (missed_all (length rules.meaning.waits)) 1 rules.plan.n counted nobody counted_long
+        false_any (missed_all (length rules.meaning.waits)) rules.plan.n counted nobody
         (λ k h. subst (λ p. missed_all (length rules.meaning.waits) p ≡ false) (sym (counted_at s k h w.long))
         (none_missed_all_kept (M rules sound) rules.plan.kind (law rules sound) q _ _ _ _ w.scene _ (w.each k h) good end (quiet k h)))
 
@@ -196,21 +196,21 @@ module _ (rules : Rules) (sound : Lawful rules.meaning) where
       few : (k : ℕ) → k < rules.plan.n → (missed (get_or s.table.parties k nobody)).note.misses < length rules.meaning.waits
       few k h =
           missed_fewer (M rules sound) rules.plan.kind (law rules sound) q _ _ _ _ w.scene _ (w.each k h) up
-          (subst (λ p. missed_all (length rules.meaning.waits) p ≡ false) (counted_at s k h w.long) (any_false (missed_all (length rules.meaning.waits)) 1 rules.plan.n counted nobody kept k h counted_long))
+          (subst (λ p. missed_all (length rules.meaning.waits) p ≡ false) (counted_at s k h w.long) (any_false (missed_all (length rules.meaning.waits)) rules.plan.n counted nobody kept k h counted_long))
 
       abbrev next : ℕ
       next = shortest rules.meaning.waits rules.meaning.tmax rules.plan.n counted
 
       next_low : rules.meaning.tmin ≤ next
       next_low =
-          folds_above (shorter rules.meaning.waits) (λ p. p.note.misses < length rules.meaning.waits) rules.meaning.tmin shorter_above 1 rules.plan.n rules.meaning.tmax counted nobody counted_long
+          fold_above (shorter rules.meaning.waits) (λ p. p.note.misses < length rules.meaning.waits) rules.meaning.tmin shorter_above rules.plan.n rules.meaning.tmax counted nobody counted_long
           (λ k h. subst (λ p. p.note.misses < length rules.meaning.waits) (sym (counted_at s k h w.long)) (few k h)) sound.ordered
 
       next_wait : (k : ℕ) → k < rules.plan.n → (missed (get_or s.table.parties k nobody)).note.roll ≡ On → next ≤ get_or rules.meaning.waits (missed (get_or s.table.parties k nobody)).note.misses 0
       next_wait k h e =
           subst (λ p. (p.note.roll ≡ On) × (p.note.misses < length rules.meaning.waits) → next ≤ get_or rules.meaning.waits p.note.misses 0) (counted_at s k h w.long)
-          (folds_below (shorter rules.meaning.waits) shorter_falls (λ p. (p.note.roll ≡ On) × (p.note.misses < length rules.meaning.waits)) (λ p. get_or rules.meaning.waits p.note.misses 0)
-          shorter_below 1 rules.plan.n rules.meaning.tmax counted nobody k h counted_long)
+          (fold_below (shorter rules.meaning.waits) shorter_falls (λ p. (p.note.roll ≡ On) × (p.note.misses < length rules.meaning.waits)) (λ p. get_or rules.meaning.waits p.note.misses 0)
+          shorter_below rules.plan.n rules.meaning.tmax counted nobody k h counted_long)
           (e, few k h)
 
       missed_roll : (p : Party) → p.note.roll ≡ On → (missed p).note.roll ≡ On
@@ -226,13 +226,13 @@ module _ (rules : Rules) (sound : Lawful rules.meaning) where
           (λ j log p e. subst (λ x. Kept (M rules sound) rules.plan.kind q c s.table.root c next (sends (c + trip rules.meaning) (length log) x) × (due c (sends (c + trip rules.meaning) (length log) x) ≡ false)) (sym e) (
             subst (λ r. Kept (M rules sound) rules.plan.kind q c r c next (sends (c + trip rules.meaning) (length log) (missed (get_or s.table.parties k nobody)))) (sym up)
                 (next_round_kept (M rules sound) rules.plan.kind (law rules sound) q _ _ _ _ w.scene _ (w.each k h) next (length log) up end (quiet k h) next_low
-                (folds_falls (shorter rules.meaning.waits) shorter_falls 1 rules.plan.n rules.meaning.tmax counted) (λ e. next_wait k h (missed_roll (get_or s.table.parties k nobody) e)) (few k h)),
+                (fold_falls (shorter rules.meaning.waits) shorter_falls rules.meaning.tmax (take rules.plan.n counted)) (λ e. next_wait k h (missed_roll (get_or s.table.parties k nobody) e)) (few k h)),
             send_quiet (M rules sound) rules.plan.kind (law rules sound) q _ _ _ _ w.scene _ (w.each k h) (length log) (quiet k h),
           ))
           1 rules.plan.n (after_count rules.plan.n s).log counted nobody k h counted_long (counted_at s k h w.long) in
           record {
             whole = record {
-              scene = let x = w.scene in let y = next_low in let z = folds_falls (shorter rules.meaning.waits) shorter_falls 1 rules.plan.n rules.meaning.tmax counted in grind arith;
+              scene = let x = w.scene in let y = next_low in let z = fold_falls (shorter rules.meaning.waits) shorter_falls rules.meaning.tmax (take rules.plan.n counted) in grind arith;
               each = λ k h. (both k h).0;
               long = walks_long _ _ 1 rules.plan.n (after_count rules.plan.n s).log counted rules.plan.n counted_long;
             };
@@ -260,7 +260,7 @@ module _ (rules : Rules) (sound : Lawful rules.meaning) where
 
   pub tick_keeps_whole : (q : Bool) (s : State) → AllKept rules sound q s → any (due s.table.clock) rules.plan.n s.table.parties ≡ false → AllKept rules sound q (after_tick rules s)
   tick_keeps_whole q s w e =
-      timers_keep_whole q (after_round rules s) (round_keeps_whole q s w (λ k h. any_false (due s.table.clock) 1 rules.plan.n s.table.parties nobody e k h w.long) (round_ends s.table) refl)
+      timers_keep_whole q (after_round rules s) (round_keeps_whole q s w (λ k h. any_false (due s.table.clock) rules.plan.n s.table.parties nobody e k h w.long) (round_ends s.table) refl)
 
 -- the beats and the log stay together
 
@@ -430,7 +430,7 @@ module _ (rules : Rules) (i : ℕ) (lo : 1 ≤ i) (hi : i ≤ rules.plan.n) wher
 
   count_tells_party : (s : State) → rules.plan.n ≤ length s.table.parties → TellsParty rules i lo hi s → TellsParty rules i lo hi (after_count rules.plan.n s)
   count_tells_party s long e =
-      walks_each _ _ (λ p. told_of rules.plan.kind i s.log ≡ account_of p) (λ p. told_of rules.plan.kind i s.log ≡ account_of p) (λ j (u : ℕ) p h. h ∙ sym (missed_told p))
+      walks_each _ _ (λ p. account_in rules.plan.kind i s.log ≡ account_of p) (λ p. account_in rules.plan.kind i s.log ≡ account_of p) (λ j (u : ℕ) p h. h ∙ sym (missed_told p))
       1 rules.plan.n 0 s.table.parties nobody (i - 1) (omega arith) (omega arith) e
 
   start_tells_party : (last : ℕ) (s : State) → rules.plan.n ≤ length s.table.parties → TellsParty rules i lo hi s → TellsParty rules i lo hi (after_sending last rules.plan.n s)
@@ -451,12 +451,12 @@ module _ (rules : Rules) (i : ℕ) (lo : 1 ≤ i) (hi : i ≤ rules.plan.n) wher
       (walks_long (λ _ (u : ℕ) p. missed p) (λ _ (u : ℕ) _. u) 1 rules.plan.n 0 s.table.parties rules.plan.n long) (count_tells_party s long e)
   round_tells_party false s long e = e
 
-  timer_there : (w : Option HappeningKind) (c j : ℕ) (log : List Happening) → (j ≡ i → ⊥) → told_of rules.plan.kind i (tells_if w c j log) ≡ told_of rules.plan.kind i log
+  timer_there : (w : Option HappeningKind) (c j : ℕ) (log : List Happening) → (j ≡ i → ⊥) → account_in rules.plan.kind i (tells_if w c j log) ≡ account_in rules.plan.kind i log
   timer_there None c j log h = refl
   timer_there (Some w) c j log h = account_other rules i lo hi log _ h
 
   live_here : (ends calls : Bool) (g : Stage) (c last place j : ℕ) (log : List Happening) (p : Party) → j ≡ i → p.own.standing ≡ Live g →
-      told_of rules.plan.kind i log ≡ account_of p → told_of rules.plan.kind i (tells_if (live_word ends calls g) c j log) ≡ account_of (times_live ends calls g c last place p)
+      account_in rules.plan.kind i log ≡ account_of p → account_in rules.plan.kind i (tells_if (live_word ends calls g) c j log) ≡ account_of (times_live ends calls g c last place p)
   live_here true calls Joins c last place j log p h is e = let f = account_mine rules i lo hi log (happening c j HasStopped (length log)) h in grind arith
   live_here true calls In c last place j log p h is e = let f = account_mine rules i lo hi log (happening c j HasStopped (length log)) h in grind arith
   live_here true calls Leaves c last place j log p h is e = let f = account_mine rules i lo hi log (happening c j HasLeft (length log)) h in grind arith
@@ -464,7 +464,7 @@ module _ (rules : Rules) (i : ℕ) (lo : 1 ≤ i) (hi : i ≤ rules.plan.n) wher
   live_here false false g c last place j log p h is e = e
 
   timer_here : (st : Standing) (c d l last place j : ℕ) (log : List Happening) (p : Party) → j ≡ i → p.own.standing ≡ st →
-      told_of rules.plan.kind i log ≡ account_of p → told_of rules.plan.kind i (timer_log st c d l p.own.since j log) ≡ account_of (times_as st c d l last place p)
+      account_in rules.plan.kind i log ≡ account_of p → account_in rules.plan.kind i (timer_log st c d l p.own.since j log) ≡ account_of (times_as st c d l last place p)
   timer_here Outside c d l last place j log p h is e = e
   timer_here (Live g) c d l last place j log p h is e = live_here (leb d (c - p.own.since)) (calls_in g l (c - p.own.since)) g c last place j log p h is e
   timer_here (Ended how at g) c d l last place j log p h is e = e
@@ -490,7 +490,7 @@ start_tells_root last n s e =
     (λ _ log p. root_conds (on_roll p.note.roll) _ _ _ (root_idle log (happening c 0 Sent (length log)) (λ r. refl)) refl) 1 ∙ e
   where
     passed_over : (n : ℕ) (log : List Happening) (ps : List Party) (g : ℕ → List Happening → Party → List Happening) →
-        ((j : ℕ) (log : List Happening) (p : Party) → root_told (g j log p) ≡ root_told log) → (j : ℕ) → root_told (folds g j n log ps) ≡ root_told log
+        ((j : ℕ) (log : List Happening) (p : Party) → root_in (g j log p) ≡ root_in log) → (j : ℕ) → root_in (folds g j n log ps) ≡ root_in log
     passed_over zero log ps g same j = refl
     passed_over (suc n) log [] g same j = refl
     passed_over (suc n) log (p ∷ ps) g same j = passed_over n (g j log p) ps g same (suc j) ∙ same j log p
@@ -504,7 +504,7 @@ round_tells_root : (b : Bool) (rules : Rules) (s : State) → TellsRoot s → Te
 round_tells_root true rules s e = verdict_tells_root _ rules (after_count rules.plan.n s) e
 round_tells_root false rules s e = e
 
-root_word : (w : Option HappeningKind) (c j : ℕ) (log : List Happening) → 1 ≤ j → root_told (tells_if w c j log) ≡ root_told log
+root_word : (w : Option HappeningKind) (c j : ℕ) (log : List Happening) → 1 ≤ j → root_in (tells_if w c j log) ≡ root_in log
 root_word None c j log h = refl
 root_word (Some w) c j log h = root_other log (happening c j w (length log)) h
 

@@ -10,7 +10,7 @@ use Rattle.protocol.specs.calls.Crash.{can_crash}
 use Rattle.protocol.specs.State.{State, opening, the}
 use Rattle.protocol.specs.Questions.{asks}
 use Rattle.protocol.specs.Runs.{effect, number, run_state}
-use Rattle.protocol.specs.Told.{TellsTheGroup, account_of, first_account, told_of}
+use Rattle.protocol.specs.Told.{TellsTheGroup, account_of, first_account, account_in}
 use Rattle.protocol.proofs.Runs.{every_state}
 use Rattle.protocol.proofs.Asked.{asked_party}
 use Rattle.protocol.proofs.Told.{TellsRoot, set_long}
@@ -51,7 +51,7 @@ module _ (rules : Rules) where
 
   module _ (i : ℕ) (lo : 1 ≤ i) (hi : i ≤ rules.plan.n) where
     call_tells_party : (call : Call) (s : State) → number rules call s ≡ 0 → rules.plan.n ≤ length s.table.parties →
-        told_of rules.plan.kind i s.log ≡ account_of (the i s.table) → told_of rules.plan.kind i (effect rules call s).log ≡ account_of (the i (effect rules call s).table)
+        account_in rules.plan.kind i s.log ≡ account_of (the i s.table) → account_in rules.plan.kind i (effect rules call s).log ≡ account_of (the i (effect rules call s).table)
     call_tells_party Tick s z long e = tick_tells_party rules i lo hi s long e
     call_tells_party (Deliver j leg) s z long e = delivery_tells_party rules i lo hi (on_leg leg (the j s.table)) j leg s refl (asked_party rules.plan.n j _ z).0 long e
     call_tells_party (Lose j leg) s z long e = loss_tells_party rules i lo hi (on_leg leg (the j s.table)) j leg s (asked_party rules.plan.n j _ z).0 long e

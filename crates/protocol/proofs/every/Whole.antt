@@ -116,7 +116,7 @@ module _ (rules : Rules) (sound : Lawful rules.meaning) where
   frees : (q : Bool) (call : Call) (s : State) → number rules call s ≡ 0 → Fine q s → FreeFor rules call s
   frees q Tick s e w = λ i lo hi.
       let k = w.each (i - 1) (omega arith) in
-      let quiet = any_false (due s.table.clock) 1 rules.plan.n s.table.parties nobody (asked_due _ _ _ e) (i - 1) (omega arith) w.long in
+      let quiet = any_false (due s.table.clock) rules.plan.n s.table.parties nobody (asked_due _ _ _ e) (i - 1) (omega arith) w.long in
       let L = law rules sound in (
         (λ ends on. free_out _ _ L q _ _ _ _ w.scene _ k (ends_up _ _ _ ends).1 quiet),
         (λ joins lo whole. free_entry _ _ L q _ _ _ _ w.scene _ k joins quiet lo whole),

@@ -23,13 +23,13 @@ abbrev pub crash_number : Plan → ℕ → ℕ → State → ℕ
 crash_number plan room i s = asks (nat_le i plan.n) 6 (asks (can_crash i s) 8 (log_asks 2 room s))
 
 -- only a live party crashes, and it keeps the clock at its end and its stage before
-abbrev pub crashed_as : Standing → ℕ → Standing
-crashed_as Outside clock = Outside
-crashed_as (Live g) clock = Ended Crashed clock g
-crashed_as (Ended how at g) clock = Ended how at g
+abbrev pub standing_after_crash : Standing → ℕ → Standing
+standing_after_crash Outside clock = Outside
+standing_after_crash (Live g) clock = Ended Crashed clock g
+standing_after_crash (Ended how at g) clock = Ended how at g
 
 abbrev pub crashes : ℕ → Party → Party
-crashes clock p = party p.note (owning (crashed_as p.own.standing clock) p.own.since) p.legs
+crashes clock p = party p.note (owning (standing_after_crash p.own.standing clock) p.own.since) p.legs
 
 abbrev pub root_after_crash : Root → ℕ → Root
 root_after_crash Running clock = Down RootCrashed clock

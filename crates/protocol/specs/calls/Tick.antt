@@ -1,5 +1,5 @@
 -- A tick closes: what is asked, what it does, and the legs on which it sends.
-use Rattle.std.specs.Prelude.{ℕ, ◌+◌, min, ◌-◌, ◌%◌, Bool, true, false, cond, ◌&&◌, ◌||◌, Some, None, Option, ◌==◌, nat_le, nat_lt, List, length, ◌*◌, not, ◌≡◌, ◌<◌, ◌≤◌}
+use Rattle.std.specs.Prelude.{take, ℕ, ◌+◌, min, ◌-◌, ◌%◌, Bool, true, false, cond, ◌&&◌, ◌||◌, Some, None, Option, ◌==◌, nat_le, nat_lt, List, length, ◌*◌, not, ◌≡◌, ◌<◌, ◌≤◌}
 use Rattle.protocol.specs.declared.party.Party.{Party}
 use Rattle.protocol.specs.declared.party.Note.{Note}
 use Rattle.protocol.specs.declared.party.Beat.{Beat}
@@ -17,7 +17,7 @@ use Rattle.protocol.specs.declared.happening.HappeningKind.{HappeningKind}
 use Rattle.protocol.specs.declared.happening.HappeningKind.TheVariants.{Sent, Crashed as HasCrashed, Stopped as HasStopped, Left as HasLeft}
 use Rattle.protocol.specs.declared.happening.Happening.{Happening}
 use Rattle.protocol.specs.declared.table.Table.{Table}
-use Rattle.std.specs.List.{slice_get}
+use Rattle.std.specs.List.{slice_get, list_any, fold}
 use Rattle.std.specs.Option.{unwrap_or}
 use Rattle.protocol.specs.Walk.{folds, walks}
 use Rattle.protocol.specs.declared.plan.Plan.{Plan}
@@ -28,7 +28,7 @@ use Rattle.protocol.specs.Questions.{asks, log_asks}
 
 -- one of the first n parties is such
 abbrev pub any : (Party → Bool) → ℕ → List Party → Bool
-any f n ps = folds (λ _ b p. b || f p) 1 n false ps
+any f n ps = list_any f (take n ps)
 
 abbrev pub due_on : ℕ → Option Beat → Bool
 due_on clock None = false
@@ -67,13 +67,13 @@ abbrev pub missed_all : ℕ → Party → Bool
 missed_all rounds p = on_roll p.note.roll && p.note.misses == rounds
 
 -- the wait so far, or a party's own at its misses where that is shorter
-abbrev pub shorter : List ℕ → ℕ → ℕ → Party → ℕ
-shorter waits k w p =
+abbrev pub shorter : List ℕ → ℕ → Party → ℕ
+shorter waits w p =
     cond (on_roll p.note.roll) (min w (unwrap_or (slice_get waits p.note.misses) w)) w
 
 -- the smallest wait among the parties on the roll, tmax with none
 abbrev pub shortest : List ℕ → ℕ → ℕ → List Party → ℕ
-shortest waits tmax n ps = folds (shorter waits) 1 n tmax ps
+shortest waits tmax n ps = fold (shorter waits) tmax (take n ps)
 
 -- the root's beat goes out to a party on the roll, which is not heard yet in the new round
 abbrev pub sends_as : Roll → ℕ → ℕ → Party → Party

@@ -37,7 +37,6 @@ pub(crate) fn end_round<P: Pace>(
 }
 
 // The root stops, or starts the next round and sends.
-#[tactic(auto, using(protocol::proofs::Members::any_take))]
 fn settle<P: Pace>(pace: &P, plan: &Plan, table: &mut Table, log: &mut SlotList<'_, Happening>)
     requires early { table.old.clock ≤ clock_limit }
     requires ready { Ready log.old table.old.clock plan.now.n }
@@ -67,7 +66,7 @@ fn has_any_missed_all(plan: &Plan, table: &Table, rounds: u32) -> bool
 
 // Each expected party has a wait, by its misses: the least of them, and tmax where there is none.
 fn next_length<P: Pace>(pace: &P, plan: &Plan, table: &Table) -> u32
-    ensures { result ≡ fold (λ best p. shorter (P.means pace.now).waits 0 best p)
+    ensures { result ≡ fold (shorter (P.means pace.now).waits)
         (P.means pace.now).tmax (take plan.now.n table.now.parties) }
 {
     let tmax = pace.limits().tmax();
@@ -78,7 +77,7 @@ fn next_length<P: Pace>(pace: &P, plan: &Plan, table: &Table) -> u32
 }
 
 fn shorter_wait<P: Pace>(pace: &P, party: &Party, best: u32) -> u32
-    ensures { result ≡ shorter (P.means pace.now).waits 0 best party.now }
+    ensures { result ≡ shorter (P.means pace.now).waits best party.now }
 {
     match party.note.roll {
         Roll::On => pace
