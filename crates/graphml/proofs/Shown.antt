@@ -15,6 +15,7 @@ use Rattle.markup.specs.Closing.{Closes}
 use Rattle.graphml.specs.Log.{ShowsTheLog}
 use Rattle.graphml.specs.Answer.{in_frame, exported, written}
 use Rattle.graphml.specs.Export.{export_answer, export_bytes}
+use Rattle.graphml.specs.Lent.{lent}
 use Rattle.graphml.specs.Shown.{ShowsTheDeliveries, ShowsTheRun}
 use Rattle.markup.specs.Cut.{EndsAt}
 use Rattle.graphml.specs.Elements.{spelling}
@@ -44,7 +45,7 @@ pub shows :
     IfOk r (λ x. x.whole ≡ false → EndsAt spelling (length out - 275) (body s.log p.n)) →
     IfOk r (λ x. Closes (take x.bytes out')) →
     IfOk r (λ x. ShowsTheLog p.n s.log x (take x.bytes out')) →
-    ShowsTheRun rules steps s out out' r
+    ShowsTheRun rules steps s (lent out out') r
 shows rules steps s out out' r p same kept answer bytes whole cut closes shown =
     let mine = own_log rules s kept.log_in_order in
     let log_shown = subst (λ (q : Plan). IfOk r (λ x. ShowsTheLog q.n s.log x (take x.bytes out'))) same shown in

@@ -11,7 +11,6 @@ use Rattle.player.specs.declared.play.PlayFault.{PlayFault}
 use Rattle.player.specs.declared.play.PlayFault.TheVariants.{Refused}
 use Rattle.player.specs.declared.play.PlayStop.{PlayStop}
 use Rattle.player.specs.Playing.{at_most_one, fault_number, fault_told, stop_told, Makes}
-
 use Rattle.pace.specs.declared.meaning.Pace.{Ghosts}
 use Rattle.protocol.specs.Rules.{Rules}
 use Rattle.protocol.specs.Answers.{number_told}
