@@ -13,7 +13,7 @@ use Rattle.graphml.specs.Body.{body}
 use Rattle.markup.specs.Closing.{Closes}
 use Rattle.graphml.specs.Reading.{edges_read, places_read}
 use Rattle.graphml.specs.Log.{ShowsTheLog, HasBothEnds, times, all_read}
-use Rattle.graphml.specs.Answer.{in_frame, exported, written}
+use Rattle.graphml.specs.Answer.{in_frame, run_answer, run_bytes}
 use Rattle.graphml.specs.Lent.{Lent}
 use Rattle.markup.specs.Cut.{EndsAt}
 use Rattle.graphml.specs.Elements.{spelling}
@@ -34,8 +34,8 @@ pub record ShowsTheRun (rules : Rules) (steps : List Step) (s : State)
     (out : Lent ℕ) (answer : Result Exported Refusal) : Type 0 where
   -- an output of 275 bytes or more holds the defined file, and after it what it held;
   -- the answer tells of it
-  pub answer_as_defined : answer ≡ exported s.log rules.plan.n (length out.before)
-  pub bytes_as_defined : out.after ≡ written s.log rules.plan.n out.before
+  pub answer_as_defined : answer ≡ run_answer s.log rules.plan.n (length out.before)
+  pub bytes_as_defined : out.after ≡ run_bytes s.log rules.plan.n out.before
   -- a whole file is the whole defined one
   pub whole_as_defined :
       IfOk answer (λ x. x.whole ≡ true →

@@ -16,7 +16,7 @@ use Rattle.orders.specs.Faults.{fault_number}
 use Rattle.orders.specs.Loading.{loaded}
 use Rattle.graphml.specs.declared.answer.Exported.{Exported}
 use Rattle.graphml.specs.declared.answer.Refusal.{Refusal}
-use Rattle.graphml.specs.Answer.{refusal_number, exported}
+use Rattle.graphml.specs.Answer.{refusal_number, run_answer}
 use Rattle.graphml.specs.Lent.{Lent}
 use Rattle.graphml.specs.Shown.{ShowsTheRun}
 use Rattle.text.specs.Lines.{AnsweredAs}
@@ -71,9 +71,9 @@ pub record IsPlayed (rules : Rules) (orders : List Order) (came : Outcome) : Typ
   -- the output holds the file of that run
   pub file : let s = (orders_run rules orders).state in
       ShowsTheRun rules made.steps s came.out
-      (exported s.log rules.plan.n (length came.out.before))
+      (run_answer s.log rules.plan.n (length came.out.before))
   pub prints : let ran = orders_run rules orders in
-      Prints (exported ran.state.log rules.plan.n (length came.out.before)) ran.stop
+      Prints (run_answer ran.state.log rules.plan.n (length came.out.before)) ran.stop
       came.bytes came.lines
 
 -- nothing is played: a question is answered no, the one of number n, about the file from a byte on

@@ -12,7 +12,8 @@ use pace::Pace;
 use pace::cap::Cap;
 use protocol::plan::Plan;
 
-// The pace is put under the file's cap, and only then is the plan asked about.
+/// Opens the group that a start record asks for, over that pace under the record's cap. The cap is
+/// asked about before the plan; a refusal is of one of them.
 pub fn open<P: Pace + Drop>(pace: P, start: Start) -> Result<Group<Cap<P>>, FileFault>
     ensures granted { IsOk result ↔ cap_and_plan_no start ≡ 0 }
     ensures refused { IfErr result (TellsOfNoRecord (cap_and_plan_no start)) }

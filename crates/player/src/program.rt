@@ -29,7 +29,7 @@ pub struct Printed {
 }
 
 // A run that was exported.
-#[derive(Clone, Copy, Debug, PartialEq, Eq)]
+#[derive(Clone, Copy)]
 struct Ran {
     file_bytes: usize,
     told: PlayedFile,

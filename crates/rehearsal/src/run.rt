@@ -15,7 +15,8 @@ use protocol::plan::Plan;
 use runs::making::make_all;
 use slots::SlotList;
 
-// What a run came to: the group, how many of the slots hold its log, and what the export answered.
+/// What a run came to: the group, how many of the slots hold its log, from the first on, and what the
+/// export answered.
 #[derive(Drop)]
 pub struct Rehearsal<P: Pace> {
     pub group: Group<P>,
@@ -23,7 +24,8 @@ pub struct Rehearsal<P: Pace> {
     pub exported: Result<Exported, Refusal>,
 }
 
-// Opens a group, makes every call of `steps` in turn, each with its answer put beside it, and exports the run.
+/// Opens a group, makes every call of `steps` in turn, refused or not, puts each answer beside its
+/// call, and exports the run into `out`.
 pub fn rehearse<P: Pace>(
     plan: Plan,
     pace: P,
