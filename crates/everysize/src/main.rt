@@ -1,5 +1,5 @@
-// For tests: what `runfile` would print of the order file on standard input, at every size of its output from the
-// least that holds the frame to three bytes more than the whole file needs.
+// For tests: what `runfile` would print of the order file on standard input, at every size of its
+// output from the least that holds the frame to three bytes more than the whole file needs.
 #![tactic(auto)]
 
 use graphml::run::FRAME;

@@ -4,7 +4,7 @@ use Rattle.protocol.specs.declared.happening.Happening.{Happening}
 use Rattle.graphml.specs.Elements.{Tag, spelling, node, graph}
 use Rattle.graphml.specs.Body.{happenings_of, party_then}
 use Rattle.graphml.specs.Texts.{node_end, graph_end, node_line, graph_line}
-use Rattle.graphml.specs.Writer.{Writer, Sound, wrote, opened, drawn}
+use Rattle.graphml.specs.Writer.{Writer, Sound, after_text, after_opening, after_fitting}
 use Rattle.graphml.specs.Numbers.{Fits}
 use Rattle.graphml.proofs.Forests.{stops, framed}
 use Rattle.graphml.proofs.Sounds.{sound_opened}
@@ -13,29 +13,29 @@ use Rattle.markup.specs.Cut.{fitting_part}
 use Rattle.markup.specs.Held.{has_room}
 use Rattle.markup.specs.Forests.{Forest, none, element, Each}
 
-module _ {s n : Writer} (i : ℕ) (hs : List Happening) (h : Sound s 20) (p : true ≡ has_room s.out (node_line i) 8) (e : n ≡ opened s (node_line i) 8) where
+module _ {s n : Writer} (i : ℕ) (hs : List Happening) (h : Sound s 20) (p : true ≡ has_room s.out (node_line i) 8) (e : n ≡ after_opening s (node_line i) 8) where
   abbrev inner : Forest Tag
   inner = element (graph i) (happenings_of i 0 hs) none
 
   abbrev o : Writer
-  o = opened s (node_line i) 8
+  o = after_opening s (node_line i) 8
 
   open_room : o.out.at + o.out.room ≤ length o.out.bytes
   open_room = let k = sound_opened s (node_line i) 8 20 h (sym p) in omega arith
 
-  begun : drawn s (party_then hs i none) ≡ wrote (drawn o inner) node_end
+  begun : after_fitting s (party_then hs i none) ≡ after_text (after_fitting o inner) node_end
   begun = framed s (node i) inner (omega arith) refl refl (sym p)
 
-  pub no_graph : {u v : Writer} → false ≡ has_room n.out (graph_line i) 9 → u ≡ n → v ≡ wrote u node_end → v ≡ drawn s (party_then hs i none)
+  pub no_graph : {u v : Writer} → false ≡ has_room n.out (graph_line i) 9 → u ≡ n → v ≡ after_text u node_end → v ≡ after_fitting s (party_then hs i none)
   no_graph q f g =
       let x = stops o (graph i) (happenings_of i 0 hs) none (sym (q ∙ ap (λ t. has_room t.out (graph_line i) 9) e)) in
-      g ∙ ap (λ t. wrote t node_end) (f ∙ e ∙ sym x) ∙ sym begun
+      g ∙ ap (λ t. after_text t node_end) (f ∙ e ∙ sym x) ∙ sym begun
 
-  pub all_in : {u v x y : Writer} → true ≡ has_room n.out (graph_line i) 9 → u ≡ opened n (graph_line i) 9 → v ≡ drawn u (happenings_of i 0 hs) → x ≡ wrote v graph_end → y ≡ wrote x node_end → y ≡ drawn s (party_then hs i none)
+  pub all_in : {u v x y : Writer} → true ≡ has_room n.out (graph_line i) 9 → u ≡ after_opening n (graph_line i) 9 → v ≡ after_fitting u (happenings_of i 0 hs) → x ≡ after_text v graph_end → y ≡ after_text x node_end → y ≡ after_fitting s (party_then hs i none)
   all_in q f d g k =
       let z = framed o (graph i) (happenings_of i 0 hs) open_room refl refl (sym (q ∙ ap (λ t. has_room t.out (graph_line i) 9) e)) in
-      let b = f ∙ ap (λ t. opened t (graph_line i) 9) e in
-      k ∙ ap (λ t. wrote t node_end) (g ∙ ap (λ t. wrote t graph_end) (d ∙ ap (λ t. drawn t (happenings_of i 0 hs)) b) ∙ sym z) ∙ sym begun
+      let b = f ∙ ap (λ t. after_opening t (graph_line i) 9) e in
+      k ∙ ap (λ t. after_text t node_end) (g ∙ ap (λ t. after_text t graph_end) (d ∙ ap (λ t. after_fitting t (happenings_of i 0 hs)) b) ∙ sym z) ∙ sym begun
 
   -- what fits of what is inside the node
   node_numbers : i < 2 ^ 64 → Each Fits (fitting_part spelling o.out.room inner) → Each Fits (fitting_part spelling s.out.room (party_then hs i none))
@@ -45,9 +45,9 @@ module _ {s n : Writer} (i : ℕ) (hs : List Happening) (h : Sound s 20) (p : tr
   no_graph_numbers small q =
       node_numbers small (subst (Each Fits) (sym (fitting_part_stop spelling o.out.room (graph i) (happenings_of i 0 hs) none (sym (q ∙ ap (λ t. has_room t.out (graph_line i) 9) e)))) tt)
 
-  pub all_numbers : {u : Writer} → i < 2 ^ 64 → true ≡ has_room n.out (graph_line i) 9 → u ≡ opened n (graph_line i) 9 → Each Fits (fitting_part spelling u.out.room (happenings_of i 0 hs)) → Each Fits (fitting_part spelling s.out.room (party_then hs i none))
+  pub all_numbers : {u : Writer} → i < 2 ^ 64 → true ≡ has_room n.out (graph_line i) 9 → u ≡ after_opening n (graph_line i) 9 → Each Fits (fitting_part spelling u.out.room (happenings_of i 0 hs)) → Each Fits (fitting_part spelling s.out.room (party_then hs i none))
   all_numbers {u} small q f inside =
-      let b = f ∙ ap (λ t. opened t (graph_line i) 9) e in
+      let b = f ∙ ap (λ t. after_opening t (graph_line i) 9) e in
       node_numbers small
       (each_begun spelling Fits o.out.room (graph i) (happenings_of i 0 hs) (sym (q ∙ ap (λ t. has_room t.out (graph_line i) 9) e)) tt
       (subst (λ (t : Writer). Each Fits (fitting_part spelling t.out.room (happenings_of i 0 hs))) b inside))

@@ -13,8 +13,9 @@ use Rattle.graphml.specs.declared.answer.Refusal.TheVariants.{LogDiffers}
 use Rattle.graphml.specs.Body.{body}
 use Rattle.markup.specs.Closing.{Closes}
 use Rattle.graphml.specs.Log.{ShowsTheLog}
-use Rattle.graphml.specs.Answer.{in_frame, exported, written}
+use Rattle.graphml.specs.Answer.{in_frame, run_answer, run_bytes}
 use Rattle.graphml.specs.Export.{export_answer, export_bytes}
+use Rattle.graphml.specs.Lent.{lent}
 use Rattle.graphml.specs.Shown.{ShowsTheDeliveries, ShowsTheRun}
 use Rattle.markup.specs.Cut.{EndsAt}
 use Rattle.graphml.specs.Elements.{spelling}
@@ -44,16 +45,16 @@ pub shows :
     IfOk r (λ x. x.whole ≡ false → EndsAt spelling (length out - 275) (body s.log p.n)) →
     IfOk r (λ x. Closes (take x.bytes out')) →
     IfOk r (λ x. ShowsTheLog p.n s.log x (take x.bytes out')) →
-    ShowsTheRun rules steps s out out' r
+    ShowsTheRun rules steps s (lent out out') r
 shows rules steps s out out' r p same kept answer bytes whole cut closes shown =
     let mine = own_log rules s kept.log_in_order in
     let log_shown = subst (λ (q : Plan). IfOk r (λ x. ShowsTheLog q.n s.log x (take x.bytes out'))) same shown in
     record {
       answer_as_defined =
           answer ∙ ap (λ (q : Plan). export_answer s q.n (length out)) same
-          ∙ ap (λ (b : Bool). cond b (exported s.log rules.plan.n (length out)) (Err LogDiffers)) mine;
+          ∙ ap (λ (b : Bool). cond b (run_answer s.log rules.plan.n (length out)) (Err LogDiffers)) mine;
       bytes_as_defined =
-          bytes ∙ ap (λ (q : Plan). export_bytes s q.n out) same ∙ ap (λ (b : Bool). cond b (written s.log rules.plan.n out) out) mine;
+          bytes ∙ ap (λ (q : Plan). export_bytes s q.n out) same ∙ ap (λ (b : Bool). cond b (run_bytes s.log rules.plan.n out) out) mine;
       whole_as_defined = subst (λ (q : Plan). IfOk r (λ x. x.whole ≡ true → take x.bytes out' ≡ in_frame (body s.log q.n))) same whole;
       cut_at_the_first_that_does_not_fit = subst (λ (q : Plan). IfOk r (λ x. x.whole ≡ false → EndsAt spelling (length out - 275) (body s.log q.n))) same cut;
       closes = closes;

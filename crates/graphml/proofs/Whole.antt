@@ -17,8 +17,8 @@ use Rattle.markup.specs.Closing.{Closes}
 use Rattle.graphml.specs.Reading.{Item, items_read, happening_of, place_of, places_read, edge_of, edges_read, parties_read}
 use Rattle.protocol.specs.Order.{OwnedUpTo}
 use Rattle.graphml.specs.Log.{items_of, times, HasBothEnds, all_read, ShowsTheLog}
-use Rattle.graphml.specs.Answer.{in_frame, part, over, written, summary, exported}
-use Rattle.graphml.specs.Writer.{Writer, wrote, drawn}
+use Rattle.graphml.specs.Answer.{in_frame, part, over, run_bytes, summary, run_answer}
+use Rattle.graphml.specs.Writer.{Writer, after_text, after_fitting}
 use Rattle.graphml.proofs.Shapes.{in_run, kept_shaped, body_shaped}
 use Rattle.graphml.proofs.Growing.{Framed}
 use Rattle.graphml.proofs.Told.{things, frame_told, all_counted, edges_counted, first_taken}
@@ -51,7 +51,7 @@ module _ (out : List ℕ) (log : List Happening) (n : ℕ) (h : 275 ≤ length o
     pub edges : s.edges ≡ count is_edge fit
     pub same : s.out.lent ≡ lent
 
-  pub finished : {lent : ℕ} {s t u : Writer} → s ≡ wrote (empty lent out) head → t ≡ drawn s (body log n) → u ≡ wrote t tail → Finished lent u
+  pub finished : {lent : ℕ} {s t u : Writer} → s ≡ after_text (empty lent out) head → t ≡ after_fitting s (body log n) → u ≡ after_text t tail → Finished lent u
   finished {lent} {s} {t} {u} p q r =
       let lh = length_head in
       let lp = length_render spelling fit in
@@ -59,7 +59,7 @@ module _ (out : List ℕ) (log : List Happening) (n : ℕ) (h : 275 ≤ length o
       let l1 = length-append head (render spelling fit) in
       let r1 = reached out 0 head (with_text_at out 0 head) (0 + length head) (render spelling fit) (omega arith) (refl, refl) in
       let r2 = reached out 0 (head ++ render spelling fit) _ _ tail (omega arith) r1 in
-      subst (Finished lent) (sym (r ∙ ap (λ x. wrote x tail) (q ∙ ap (λ x. drawn x (body log n)) p))) (record {
+      subst (Finished lent) (sym (r ∙ ap (λ x. after_text x tail) (q ∙ ap (λ x. after_fitting x (body log n)) p))) (record {
         bytes = r2.0 ∙ ap (λ k. text ++ drop k out) (zero-add (length text));
         at = r2.1 ∙ zero-add (length text);
         happenings = zero-add _;
@@ -73,13 +73,13 @@ module _ (out : List ℕ) (log : List Happening) (n : ℕ) (h : 275 ≤ length o
   abbrev done : Result Exported Refusal
   done = Ok (summary fit (all_fits spelling (length out - 275) (body log n)))
 
-  pub answered : {lent : ℕ} {s u : Writer} {r : Bool} → s ≡ wrote (empty lent out) head → r ≡ all_fits spelling s.out.room (body log n) → Finished lent u → ◌≡◌ {A = Result Exported Refusal} (Ok (record { bytes = u.out.at; happenings = u.happenings; edges = u.edges; whole = r })) (exported log n (length out))
+  pub answered : {lent : ℕ} {s u : Writer} {r : Bool} → s ≡ after_text (empty lent out) head → r ≡ all_fits spelling s.out.room (body log n) → Finished lent u → ◌≡◌ {A = Result Exported Refusal} (Ok (record { bytes = u.out.at; happenings = u.happenings; edges = u.edges; whole = r })) (run_answer log n (length out))
   answered p w f =
       let all = w ∙ ap (λ x. all_fits spelling x.out.room (body log n)) p in
       ◌∙◌ {b = done} (λ i. Ok (record { bytes = f.at i; happenings = f.happenings i; edges = f.edges i; whole = all i }))
       (sym (ap (λ b. cond b done (Err ShortOutput)) enough))
 
-  pub left_as_written : {out' : List ℕ} → out' ≡ over text out → out' ≡ written log n out
+  pub left_as_written : {out' : List ℕ} → out' ≡ over text out → out' ≡ run_bytes log n out
   left_as_written e = e ∙ sym (ap (λ b. cond b (over text out) out) enough)
 
   -- the bytes that were written

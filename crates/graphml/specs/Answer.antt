@@ -27,14 +27,22 @@ abbrev pub over : List ℕ → List ℕ → List ℕ
 over text out = text ++ drop (length text) out
 
 -- what the output out holds afterwards
-abbrev pub written : List Happening → ℕ → List ℕ → List ℕ
-written log n out = cond (nat_le 275 (length out)) (over (in_frame (part log n (length out))) out) out
+abbrev pub run_bytes : List Happening → ℕ → List ℕ → List ℕ
+run_bytes log n out =
+    cond (nat_le 275 (length out)) (over (in_frame (part log n (length out))) out) out
 
 -- what is answered for a forest of which all was written, or not
 abbrev pub summary : Forest Tag → (whole : Bool) → Exported
-summary f whole = record { bytes = length (in_frame f); happenings = count is_happening f; edges = count is_edge f; whole = whole }
+summary f whole = record {
+  bytes = length (in_frame f);
+  happenings = count is_happening f;
+  edges = count is_edge f;
+  whole = whole;
+}
 
 -- the answer at an output of cap bytes
-abbrev pub exported : List Happening → ℕ → ℕ → Result Exported Refusal
-exported log n cap =
-    cond (nat_le 275 cap) (Ok (summary (part log n cap) (all_fits spelling (cap - 275) (body log n)))) (Err ShortOutput)
+abbrev pub run_answer : List Happening → ℕ → ℕ → Result Exported Refusal
+run_answer log n cap =
+    cond (nat_le 275 cap)
+    (Ok (summary (part log n cap) (all_fits spelling (cap - 275) (body log n))))
+    (Err ShortOutput)

@@ -11,7 +11,8 @@ use Rattle.markup.specs.Forests.{Forest, none, element}
 abbrev pub lines_of : (Happening → Bool) → (ℕ → Happening → Tag) → ℕ → List Happening → Forest Tag
 lines_of pick tag k [] = none
 lines_of pick tag k (h ∷ hs) =
-    cond (pick h) (element (tag k h) none (lines_of pick tag (k + 1) hs)) (lines_of pick tag (k + 1) hs)
+    let rest = lines_of pick tag (k + 1) hs in
+    cond (pick h) (element (tag k h) none rest) rest
 
 abbrev pub is_owned : ℕ → Happening → Bool
 is_owned i h = h.owner == i

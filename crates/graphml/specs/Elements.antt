@@ -4,7 +4,8 @@ use Rattle.protocol.specs.declared.happening.Happening.{Happening}
 use Rattle.markup.specs.Forests.{Spelling}
 use Rattle.graphml.specs.Texts.{head, tail, node_line, node_end, graph_line, graph_end, happening_line, edge_line}
 
--- what an element is: the run, a party's node, its inner graph, a happening at a place of the log, or an edge between two places
+-- what an element is: the run, a party's node, its inner graph, a happening at a place of the log,
+-- or an edge between two places
 pub data Tag : Type 0 where
   run : Tag
   node : ℕ → Tag

@@ -6,6 +6,7 @@ pub mod Numbers
 pub mod Reading
 pub mod Log
 pub mod Answer
+pub mod Lent
 pub mod Writer
 pub mod Samples
 pub mod Export

@@ -37,7 +37,8 @@ times k (j ∷ js) = cond (j == k) 1 0 + times k js
 -- both ends of an edge that was read are happenings in the file, each there once
 abbrev pub HasBothEnds : List ℕ → Option Edge → Type 0
 HasBothEnds bs None = ⊥
-HasBothEnds bs (Some e) = (times e.source (places_read bs) ≡ 1) × (times e.target (places_read bs) ≡ 1)
+HasBothEnds bs (Some e) =
+    (times e.source (places_read bs) ≡ 1) × (times e.target (places_read bs) ≡ 1)
 
 -- every one of these, and each as it is
 abbrev pub all_read : {A : Type 0} → List A → List (Option A)
@@ -53,9 +54,11 @@ pub record ShowsTheLog (n : ℕ) (log : List Happening) (x : Exported) (bs : Lis
   pub one_graph : graphs_read bs ≡ codes "run" ∷ []
   -- a place is read from its node's id: no such id stands twice
   pub no_place_twice : (k : ℕ) → times k (places_read bs) ≤ 1
-  -- whole, it has the parties 0 to n, of each its records, and the edges of the arrivals, all in their order
+  -- whole, it has the parties 0 to n, of each its records, and the edges of the arrivals, all in
+  -- their order
   pub parties : x.whole ≡ true → parties_read bs ≡ all_read (numbers 0 (n + 1))
-  pub happenings : x.whole ≡ true → (i : ℕ) → i ≤ n → happenings_read i bs ≡ all_read (entries i 0 log)
+  pub happenings :
+      x.whole ≡ true → (i : ℕ) → i ≤ n → happenings_read i bs ≡ all_read (entries i 0 log)
   pub edges : x.whole ≡ true → edges_read bs ≡ all_read (edges 0 log)
   pub no_others : x.whole ≡ true → items_read bs ≡ all_read (items_of n log)
   -- and so each place of the log stands once

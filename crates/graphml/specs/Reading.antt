@@ -1,4 +1,5 @@
--- The run that a GraphML reader sees in a file: its keys, its parties, their happenings and the edges.
+-- The run that a GraphML reader sees in a file: its keys, its parties, their happenings and the
+-- edges.
 use Rattle.std.specs.Prelude.{ℕ, ◌==◌, ◌&&◌, Bool, true, false, List, [], ◌∷◌, ◌++◌, Some, None, Option, codes, bytes_eq, if◌then◌else◌}
 use Rattle.std.specs.List.{flat_map}
 use Rattle.protocol.specs.declared.happening.HappeningKind.{HappeningKind}
@@ -42,14 +43,16 @@ kind_named t =
 -- the text of a datum of that key
 abbrev pub datum_text : List ℕ → Reader (List ℕ)
 datum_text k n xs inside =
-    if bytes_eq n (codes "data") && bytes_eq (value_at (codes "key") xs) k then text_in inside ∷ [] else []
+    if bytes_eq n (codes "data") && bytes_eq (value_at (codes "key") xs) k
+    then text_in inside ∷ [] else []
 
 -- the text of the one datum of that key
 abbrev pub datum : List ℕ → Content → List ℕ
 datum k c = sole_text (each_in (datum_text k) c)
 
 abbrev pub happening : Option ℕ → Option ℕ → Option ℕ → Option HappeningKind → Option Item
-happening (Some i) (Some k) (Some t) (Some w) = Some (happened i (record { place = k; tick = t; kind = w }))
+happening (Some i) (Some k) (Some t) (Some w) =
+    Some (happened i (record { place = k; tick = t; kind = w }))
 happening _ _ _ _ = None
 
 abbrev pub join : Option ℕ → Option ℕ → Option Item
@@ -67,7 +70,8 @@ are_two _ = false
 abbrev pub happening_told : Option ℕ → List Attribute → Content → Option Item
 happening_told i xs inside =
     if are_two (each_in is_datum inside)
-    then happening i (place_named (id_of xs)) (number_in (datum (codes "t") inside)) (kind_named (datum (codes "k") inside))
+    then happening i (place_named (id_of xs)) (number_in (datum (codes "t") inside))
+    (kind_named (datum (codes "k") inside))
     else None
 
 abbrev pub edge_told : List Attribute → Option Item
@@ -79,11 +83,13 @@ is_directed xs = bytes_eq (value_at (codes "edgedefault") xs) (codes "directed")
 
 -- an inner graph has the id of the node that it stands in, and a colon
 abbrev pub is_inner_graph : (id : List ℕ) → List ℕ → List Attribute → Bool
-is_inner_graph id n xs = bytes_eq n (codes "graph") && bytes_eq (id_of xs) (id ++ codes ":") && is_directed xs
+is_inner_graph id n xs =
+    bytes_eq n (codes "graph") && bytes_eq (id_of xs) (id ++ codes ":") && is_directed xs
 
 -- right in party i's inner graph: its happenings, and nothing else
 abbrev pub graph_item : Option ℕ → Reader (Option Item)
-graph_item i n xs inside = (if bytes_eq n (codes "node") then happening_told i xs inside else None) ∷ []
+graph_item i n xs inside =
+    (if bytes_eq n (codes "node") then happening_told i xs inside else None) ∷ []
 
 -- right in the node of that id: its inner graph, and nothing else
 abbrev pub node_items : (id : List ℕ) → Reader (Option Item)
@@ -108,7 +114,8 @@ in_file f n xs inside =
 -- what f reads of each element right in the graph of the whole
 abbrev pub in_run : {A : Type 0} → Reader A → Reader A
 in_run f n xs inside =
-    if bytes_eq n (codes "graph") && bytes_eq (id_of xs) (codes "run") && is_directed xs then each_in f inside else []
+    if bytes_eq n (codes "graph") && bytes_eq (id_of xs) (codes "run") && is_directed xs
+    then each_in f inside else []
 
 -- the happenings and the edges in file order; None for what is neither
 unfoldable pub items_read : List ℕ → List (Option Item)
@@ -150,7 +157,8 @@ party_told id _ = None
 
 abbrev pub party_item : Reader (Option ℕ)
 party_item n xs inside =
-    if bytes_eq n (codes "node") then party_told (id_of xs) (each_in (inner_graph (id_of xs)) inside) ∷ [] else []
+    if bytes_eq n (codes "node")
+    then party_told (id_of xs) (each_in (inner_graph (id_of xs)) inside) ∷ [] else []
 
 -- the parties in file order
 unfoldable pub parties_read : List ℕ → List (Option ℕ)

@@ -13,7 +13,8 @@ use Rattle.graphml.specs.Body.{body}
 use Rattle.markup.specs.Closing.{Closes}
 use Rattle.graphml.specs.Reading.{edges_read, places_read}
 use Rattle.graphml.specs.Log.{ShowsTheLog, HasBothEnds, times, all_read}
-use Rattle.graphml.specs.Answer.{in_frame, exported, written}
+use Rattle.graphml.specs.Answer.{in_frame, run_answer, run_bytes}
+use Rattle.graphml.specs.Lent.{Lent}
 use Rattle.markup.specs.Cut.{EndsAt}
 use Rattle.graphml.specs.Elements.{spelling}
 
@@ -28,22 +29,27 @@ pub record ShowsTheDeliveries (rules : Rules) (steps : List Step)
   pub each_place_once : (k : ℕ) → k < length log → times k (places_read bs) ≡ 1
   pub edges_have_both_ends : All (HasBothEnds bs) (edges_read bs)
 
--- of the file of a run by those steps that came to s, in an output that was out and is out' then
+-- of the file of a run by those steps that came to s, in the output that was lent for it
 pub record ShowsTheRun (rules : Rules) (steps : List Step) (s : State)
-    (out out' : List ℕ) (answer : Result Exported Refusal) : Type 0 where
-  -- an output of 275 bytes or more holds the defined file, and after it what it held; the answer tells of it
-  pub answer_as_defined : answer ≡ exported s.log rules.plan.n (length out)
-  pub bytes_as_defined : out' ≡ written s.log rules.plan.n out
+    (out : Lent ℕ) (answer : Result Exported Refusal) : Type 0 where
+  -- an output of 275 bytes or more holds the defined file, and after it what it held;
+  -- the answer tells of it
+  pub answer_as_defined : answer ≡ run_answer s.log rules.plan.n (length out.before)
+  pub bytes_as_defined : out.after ≡ run_bytes s.log rules.plan.n out.before
   -- a whole file is the whole defined one
   pub whole_as_defined :
-      IfOk answer (λ x. x.whole ≡ true → take x.bytes out' ≡ in_frame (body s.log rules.plan.n))
+      IfOk answer (λ x. x.whole ≡ true →
+      take x.bytes out.after ≡ in_frame (body s.log rules.plan.n))
   -- a cut file has the first elements of all, and the next did not fit
   pub cut_at_the_first_that_does_not_fit :
-      IfOk answer (λ x. x.whole ≡ false → EndsAt spelling (length out - 275) (body s.log rules.plan.n))
+      IfOk answer (λ x. x.whole ≡ false →
+      EndsAt spelling (length out.before - 275) (body s.log rules.plan.n))
   -- read from its bytes alone, whole or cut, each element in it is closed, inner before outer
-  pub closes : IfOk answer (λ x. Closes (take x.bytes out'))
+  pub closes : IfOk answer (λ x. Closes (take x.bytes out.after))
   -- and it shows the log: the first of its happenings and edges, or all of them
-  pub shows_the_log : IfOk answer (λ x. ShowsTheLog rules.plan.n s.log x (take x.bytes out'))
+  pub shows_the_log :
+      IfOk answer (λ x. ShowsTheLog rules.plan.n s.log x (take x.bytes out.after))
   -- and a whole one the deliveries
   pub shows_the_deliveries :
-      IfOk answer (λ x. x.whole ≡ true → ShowsTheDeliveries rules steps s.log (take x.bytes out'))
+      IfOk answer (λ x. x.whole ≡ true →
+      ShowsTheDeliveries rules steps s.log (take x.bytes out.after))

@@ -5,7 +5,12 @@ use Rattle.protocol.specs.declared.happening.Happening.{Happening}
 
 -- the frame's first five lines, 255 bytes
 unfoldable pub head : List ℕ
-head = codes "<?xml version=\"1.0\" encoding=\"UTF-8\"?>\n" ++ codes "<graphml xmlns=\"http://graphml.graphdrawing.org/xmlns\">\n" ++ codes "<key id=\"t\" for=\"node\" attr.name=\"tick\" attr.type=\"long\"/>\n" ++ codes "<key id=\"k\" for=\"node\" attr.name=\"what\" attr.type=\"string\"/>\n" ++ codes "<graph id=\"run\" edgedefault=\"directed\">\n"
+head =
+    codes "<?xml version=\"1.0\" encoding=\"UTF-8\"?>\n"
+    ++ codes "<graphml xmlns=\"http://graphml.graphdrawing.org/xmlns\">\n"
+    ++ codes "<key id=\"t\" for=\"node\" attr.name=\"tick\" attr.type=\"long\"/>\n"
+    ++ codes "<key id=\"k\" for=\"node\" attr.name=\"what\" attr.type=\"string\"/>\n"
+    ++ codes "<graph id=\"run\" edgedefault=\"directed\">\n"
 
 -- the frame's last two lines, 20 bytes
 unfoldable pub tail : List ℕ
@@ -27,8 +32,12 @@ graph_end = codes "</graph>\n"
 
 -- the happening h at place k of the log
 unfoldable pub happening_line : ℕ → Happening → List ℕ
-happening_line k h = codes "<node id=\"h" ++ decimal k ++ codes "\"><data key=\"t\">" ++ decimal h.tick ++ codes "</data><data key=\"k\">" ++ word h.kind ++ codes "</data></node>\n"
+happening_line k h =
+    codes "<node id=\"h" ++ decimal k
+    ++ codes "\"><data key=\"t\">" ++ decimal h.tick ++ codes "</data><data key=\"k\">" ++ word h.kind
+    ++ codes "</data></node>\n"
 
 -- an edge from the happening at place a to the one at place b
 unfoldable pub edge_line : ℕ → ℕ → List ℕ
-edge_line a b = codes "<edge source=\"h" ++ decimal a ++ codes "\" target=\"h" ++ decimal b ++ codes "\"/>\n"
+edge_line a b =
+    codes "<edge source=\"h" ++ decimal a ++ codes "\" target=\"h" ++ decimal b ++ codes "\"/>\n"

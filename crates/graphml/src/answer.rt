@@ -2,7 +2,8 @@
 ghost use Rattle.std.specs.Prelude.{◌≡◌};
 ghost use Rattle.graphml.specs.Answer.{refusal_number};
 
-// What was written: bytes, happenings and edges, and whether that is the whole file.
+/// What was written: how many bytes from the output's first on, and how many happenings and edges
+/// are in them. `whole` is false where the output had no room for all; then too the file is closed.
 #[derive(Clone, Copy, Debug, PartialEq, Eq)]
 pub struct Exported {
     pub bytes: usize,
@@ -11,17 +12,17 @@ pub struct Exported {
     pub whole: bool,
 }
 
-// Why nothing was written.
+/// Why nothing was written.
 #[derive(Clone, Copy, Debug, PartialEq, Eq)]
 pub enum Refusal {
-    // the log is not the one that the group wrote
+    /// The log is not the one that the group wrote.
     LogDiffers = 13,
-    // the output has no room for the frame
+    /// The output has no room for the frame.
     ShortOutput = 17,
 }
 
 impl Refusal {
-    // Not a `From`: a byte alone would not say that it is the number of a question.
+    /// The number of the question that was answered no.
     pub fn number(self) -> u8
         ensures { result ≡ refusal_number self }
     {

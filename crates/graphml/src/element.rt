@@ -1,14 +1,21 @@
-// One token for each open element. Only the closing of its element spends it, and an inner token holds the outer one
-// until it is closed: a token cannot be let go, nor the outer element closed under an open inner one.
-// The output stands beside the tokens: were it in them, a caller would not know what the lent bytes end as.
+// One token for each open element. Only the closing of its element spends it, and an inner token
+// holds the outer one until it is closed: a token cannot be let go, nor the outer element closed
+// under an open inner one. The output stands beside the tokens: were it in them, a caller would not
+// know what the lent bytes end as.
 ghost use Rattle.std.specs.Prelude.{◌≡◌, is_ok, if◌then◌else◌};
 ghost use Rattle.graphml.specs.Texts.{head, tail, node_line, node_end, graph_line, graph_end};
-ghost use Rattle.graphml.specs.Elements.{spelling, happened, edge};
-ghost use Rattle.graphml.specs.Numbers.{Fits};
-ghost use Rattle.graphml.specs.Writer.{writer, Sound, wrote, opened, drawn};
+ghost use Rattle.graphml.specs.Elements.{happened, edge};
+ghost use Rattle.graphml.specs.Writer.{
+  writer,
+  Sound,
+  after_text,
+  after_opening,
+  after_fitting,
+  all_fits_in,
+  NumbersFit,
+};
 ghost use Rattle.markup.specs.Held.{has_room};
-ghost use Rattle.markup.specs.Cut.{all_fits, fitting_part};
-ghost use Rattle.markup.specs.Forests.{one, Each};
+ghost use Rattle.markup.specs.Forests.{one};
 
 use super::lines;
 use super::output::{RunOutput, begin, write};
@@ -40,7 +47,7 @@ impl RunGraph {
     #[tactic(auto, unfolding(crate::specs::Texts::head))]
     pub(crate) fn open(out: &mut RunOutput) -> RunGraph
         requires { Sound (writer out.old) 275 }
-        ensures after { writer out.new ≡ wrote (writer out.old) head }
+        ensures after { writer out.new ≡ after_text (writer out.old) head }
         ensures sound { Sound (writer out.new) 20 }
     {
         write(out, HEAD);
@@ -51,7 +58,8 @@ impl RunGraph {
     pub(crate) fn open_node(self, out: &mut RunOutput, party: u16) -> Result<PartyNode, RunGraph>
         requires { Sound (writer out.old) 20 }
         ensures room { is_ok result ≡ has_room (writer out.old).out (node_line party) 8 }
-        ensures after { writer out.new ≡ (if is_ok result then opened (writer out.old) (node_line party) 8 else writer out.old) }
+        ensures after { writer out.new ≡ (if is_ok result
+            then after_opening (writer out.old) (node_line party) 8 else writer out.old) }
         ensures sound { Sound (writer out.new) (if is_ok result then 28 else 20) }
     {
         match begin(out, lines::node_line(party).as_slice(), 8) {
@@ -63,9 +71,9 @@ impl RunGraph {
     // An edge, if it fits.
     pub(crate) fn edge(&self, out: &mut RunOutput, source: usize, target: usize) -> Result<(), Cut>
         requires { Sound (writer out.old) 20 }
-        ensures whole { is_ok result ≡ all_fits spelling (writer out.old).out.room (one (edge source target)) }
-        ensures after { writer out.new ≡ drawn (writer out.old) (one (edge source target)) }
-        ensures numbers { Each Fits (fitting_part spelling (writer out.old).out.room (one (edge source target))) }
+        ensures whole { is_ok result ≡ all_fits_in (writer out.old) (one (edge source target)) }
+        ensures after { writer out.new ≡ after_fitting (writer out.old) (one (edge source target)) }
+        ensures numbers { NumbersFit (writer out.old) (one (edge source target)) }
         ensures sound { Sound (writer out.new) 20 }
     {
         begin(out, lines::edge_line(source, target).as_slice(), 0)?;
@@ -76,7 +84,7 @@ impl RunGraph {
     #[tactic(auto, unfolding(crate::specs::Texts::tail))]
     pub(crate) fn close(self, out: &mut RunOutput)
         requires { Sound (writer out.old) 20 }
-        ensures { writer out.new ≡ wrote (writer out.old) tail }
+        ensures { writer out.new ≡ after_text (writer out.old) tail }
     {
         let RunGraph { open: () } = self;
         write(out, TAIL);
@@ -84,12 +92,12 @@ impl RunGraph {
 }
 
 impl PartyNode {
-    // The party's inner graph, or the token back where it does not fit. One body for this and `open_node` would take the line,
-    // the closing and both tokens' types from its caller, and be no plainer.
+    // The party's inner graph, or the token back where it does not fit.
     pub(crate) fn open_graph(self, out: &mut RunOutput, party: u16) -> Result<PartyGraph, PartyNode>
         requires { Sound (writer out.old) 28 }
         ensures room { is_ok result ≡ has_room (writer out.old).out (graph_line party) 9 }
-        ensures after { writer out.new ≡ (if is_ok result then opened (writer out.old) (graph_line party) 9 else writer out.old) }
+        ensures after { writer out.new ≡ (if is_ok result
+            then after_opening (writer out.old) (graph_line party) 9 else writer out.old) }
         ensures sound { Sound (writer out.new) (if is_ok result then 37 else 28) }
     {
         match begin(out, lines::graph_line(party).as_slice(), 9) {
@@ -100,7 +108,7 @@ impl PartyNode {
 
     pub(crate) fn close(self, out: &mut RunOutput) -> RunGraph
         requires { Sound (writer out.old) 28 }
-        ensures after { writer out.new ≡ wrote (writer out.old) node_end }
+        ensures after { writer out.new ≡ after_text (writer out.old) node_end }
         ensures sound { Sound (writer out.new) 20 }
     {
         let PartyNode { outer } = self;
@@ -110,7 +118,7 @@ impl PartyNode {
 }
 
 impl PartyGraph {
-    // A happening, if it fits. Only `?` and a counter would be shared with `edge`, and only a move between the closings.
+    // A happening, if it fits.
     pub(crate) fn happening(
         &self,
         out: &mut RunOutput,
@@ -118,9 +126,11 @@ impl PartyGraph {
         happening: &Happening,
     ) -> Result<(), Cut>
         requires { Sound (writer out.old) 37 }
-        ensures whole { is_ok result ≡ all_fits spelling (writer out.old).out.room (one (happened place happening.now)) }
-        ensures after { writer out.new ≡ drawn (writer out.old) (one (happened place happening.now)) }
-        ensures numbers { Each Fits (fitting_part spelling (writer out.old).out.room (one (happened place happening.now))) }
+        ensures whole { is_ok result
+            ≡ all_fits_in (writer out.old) (one (happened place happening.now)) }
+        ensures after { writer out.new
+            ≡ after_fitting (writer out.old) (one (happened place happening.now)) }
+        ensures numbers { NumbersFit (writer out.old) (one (happened place happening.now)) }
         ensures sound { Sound (writer out.new) 37 }
     {
         begin(out, lines::happening_line(place, happening).as_slice(), 0)?;
@@ -130,7 +140,7 @@ impl PartyGraph {
 
     pub(crate) fn close(self, out: &mut RunOutput) -> PartyNode
         requires { Sound (writer out.old) 37 }
-        ensures after { writer out.new ≡ wrote (writer out.old) graph_end }
+        ensures after { writer out.new ≡ after_text (writer out.old) graph_end }
         ensures sound { Sound (writer out.new) 28 }
     {
         let PartyGraph { outer } = self;

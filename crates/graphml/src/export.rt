@@ -17,14 +17,20 @@ use pace::Pace;
 use protocol::happening::Happening;
 use slots::SlotList;
 
-// Writes the file of the run; where that is refused the output is as it was.
+/// Writes the file of the group's run as GraphML, from the output's first byte on. An output too
+/// short for all of it gets the elements that fit, in file order, each of them closed.
+///
+/// Refused are a log that the group did not write, and an output with no room for the frame; the
+/// output is then as it was.
 pub fn export<P: Pace>(
     group: &Group<P>,
     log: &SlotList<'_, Happening>,
     out: &mut [u8],
 ) -> Result<Exported, Refusal>
-    ensures answer { result ≡ export_answer (state_of group.now.table log.now) group.now.plan.n (length out.old) }
-    ensures bytes { out.new ≡ export_bytes (state_of group.now.table log.now) group.now.plan.n out.old }
+    ensures answer { result
+        ≡ export_answer (state_of group.now.table log.now) group.now.plan.n (length out.old) }
+    ensures bytes { out.new
+        ≡ export_bytes (state_of group.now.table log.now) group.now.plan.n out.old }
     ensures whole { IfOk result (λ x. x.whole ≡ true →
         take x.bytes out.new ≡ in_frame (body (items log.now) group.now.plan.n)) }
     ensures cut { IfOk result (λ x. x.whole ≡ false →

@@ -1,11 +1,8 @@
 // The parties with their happenings, and then the edges, as far as they fit.
 ghost use Rattle.std.specs.Prelude.{◌≡◌, is_ok};
-ghost use Rattle.graphml.specs.Numbers.{Fits};
 ghost use Rattle.graphml.specs.Body.{happenings_of, edges_from, is_arrived, party_then, body};
-ghost use Rattle.graphml.specs.Writer.{writer, Sound, drawn};
-ghost use Rattle.markup.specs.Cut.{all_fits, fitting_part};
-ghost use Rattle.markup.specs.Forests.{none, Each};
-ghost use Rattle.graphml.specs.Elements.{spelling};
+ghost use Rattle.graphml.specs.Writer.{writer, Sound, after_fitting, all_fits_in, NumbersFit};
+ghost use Rattle.markup.specs.Forests.{none};
 
 use super::element::{PartyGraph, RunGraph};
 use super::output::RunOutput;
@@ -20,9 +17,10 @@ fn write_happenings(
     party: u16,
 ) -> Result<(), Cut>
     requires { Sound (writer out.old) 37 }
-    ensures whole { is_ok result ≡ all_fits spelling (writer out.old).out.room (happenings_of party 0 log.now) }
-    ensures after { writer out.new ≡ drawn (writer out.old) (happenings_of party 0 log.now) }
-    ensures numbers { Each Fits (fitting_part spelling (writer out.old).out.room (happenings_of party 0 log.now)) }
+    ensures whole { is_ok result ≡ all_fits_in (writer out.old) (happenings_of party 0 log.now) }
+    ensures after { writer out.new
+        ≡ after_fitting (writer out.old) (happenings_of party 0 log.now) }
+    ensures numbers { NumbersFit (writer out.old) (happenings_of party 0 log.now) }
     ensures sound { Sound (writer out.new) 37 }
 {
     for (place, happening) in log.iter().enumerate() {
@@ -41,9 +39,10 @@ fn write_party(
     party: u16,
 ) -> Result<RunGraph, RunGraph>
     requires { Sound (writer out.old) 20 }
-    ensures whole { is_ok result ≡ all_fits spelling (writer out.old).out.room (party_then log.now party none) }
-    ensures after { writer out.new ≡ drawn (writer out.old) (party_then log.now party none) }
-    ensures numbers { Each Fits (fitting_part spelling (writer out.old).out.room (party_then log.now party none)) }
+    ensures whole { is_ok result ≡ all_fits_in (writer out.old) (party_then log.now party none) }
+    ensures after { writer out.new
+        ≡ after_fitting (writer out.old) (party_then log.now party none) }
+    ensures numbers { NumbersFit (writer out.old) (party_then log.now party none) }
     ensures sound { Sound (writer out.new) 20 }
 {
     let node = run.open_node(out, party)?;
@@ -63,9 +62,9 @@ fn write_party(
 // An edge for each arrival, in log order, up to the first that does not fit.
 fn write_edges(out: &mut RunOutput, run: &RunGraph, log: &[Happening]) -> Result<(), Cut>
     requires { Sound (writer out.old) 20 }
-    ensures whole { is_ok result ≡ all_fits spelling (writer out.old).out.room (edges_from 0 log.now) }
-    ensures after { writer out.new ≡ drawn (writer out.old) (edges_from 0 log.now) }
-    ensures numbers { Each Fits (fitting_part spelling (writer out.old).out.room (edges_from 0 log.now)) }
+    ensures whole { is_ok result ≡ all_fits_in (writer out.old) (edges_from 0 log.now) }
+    ensures after { writer out.new ≡ after_fitting (writer out.old) (edges_from 0 log.now) }
+    ensures numbers { NumbersFit (writer out.old) (edges_from 0 log.now) }
     ensures sound { Sound (writer out.new) 20 }
 {
     for (place, happening) in log.iter().enumerate() {
@@ -82,7 +81,8 @@ fn is_arrived(kind: HappeningKind) -> bool
     kind == HappeningKind::Arrived
 }
 
-// The parties 0 to `parties`, and then the edges, as far as they fit; the token comes back either way.
+// The parties 0 to `parties`, and then the edges, as far as they fit; the token comes back either
+// way.
 pub(crate) fn write_body(
     out: &mut RunOutput,
     mut run: RunGraph,
@@ -90,9 +90,9 @@ pub(crate) fn write_body(
     parties: u8,
 ) -> Result<RunGraph, RunGraph>
     requires { Sound (writer out.old) 20 }
-    ensures whole { is_ok result ≡ all_fits spelling (writer out.old).out.room (body log.now parties) }
-    ensures after { writer out.new ≡ drawn (writer out.old) (body log.now parties) }
-    ensures numbers { Each Fits (fitting_part spelling (writer out.old).out.room (body log.now parties)) }
+    ensures whole { is_ok result ≡ all_fits_in (writer out.old) (body log.now parties) }
+    ensures after { writer out.new ≡ after_fitting (writer out.old) (body log.now parties) }
+    ensures numbers { NumbersFit (writer out.old) (body log.now parties) }
     ensures sound { Sound (writer out.new) 20 }
 {
     for party in 0..=u16::from(parties) {

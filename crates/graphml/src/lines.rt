@@ -1,4 +1,4 @@
-// The lines of the file. Each spells its own text: one function for all would take the texts between the numbers, and read no plainer.
+// The lines of the file, each ended by a line feed.
 ghost use Rattle.std.specs.Prelude.{◌≡◌, ◌^◌, ◌<◌};
 ghost use Rattle.graphml.specs.Texts.{node_line, graph_line, happening_line, edge_line};
 

@@ -3,7 +3,7 @@ ghost use Rattle.std.specs.Prelude.{◌≡◌, ◌-◌, true, false, length, tak
 ghost use Rattle.graphml.specs.Body.{body};
 ghost use Rattle.markup.specs.Closing.{Closes};
 ghost use Rattle.graphml.specs.Log.{ShowsTheLog};
-ghost use Rattle.graphml.specs.Answer.{in_frame, written, exported};
+ghost use Rattle.graphml.specs.Answer.{in_frame, run_bytes, run_answer};
 ghost use Rattle.markup.specs.Cut.{EndsAt};
 ghost use Rattle.graphml.specs.Elements.{spelling};
 
@@ -14,13 +14,14 @@ use super::output::Counts;
 use markup::output::Output;
 use protocol::happening::Happening;
 
-// The bytes of the frame.
+/// The bytes of the frame, and so the least output into which a run is exported.
 pub const FRAME: usize = 275;
 
-// Writes the parties 0 to `parties` with their happenings, and an edge for each arrival, as far as the output has room.
+// Writes the parties 0 to `parties` with their happenings, and an edge for each arrival, as far as
+// the output has room.
 pub(crate) fn write_run(log: &[Happening], parties: u8, out: &mut [u8]) -> Result<Exported, Refusal>
-    ensures answer { result ≡ exported log.now parties (length out.old) }
-    ensures bytes { out.new ≡ written log.now parties out.old }
+    ensures answer { result ≡ run_answer log.now parties (length out.old) }
+    ensures bytes { out.new ≡ run_bytes log.now parties out.old }
     ensures whole { IfOk result (λ x. x.whole ≡ true →
         take x.bytes out.new ≡ in_frame (body log.now parties)) }
     ensures cut { IfOk result (λ x. x.whole ≡ false →

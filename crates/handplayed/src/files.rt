@@ -28,7 +28,8 @@ const EMPTY_RUN: &str = r#"<?xml version="1.0" encoding="UTF-8"?>
 </graphml>
 "#;
 
-// The number of a refusal, or the bytes written and whether they are the whole file: in one form, since the worked cases give figures.
+// The number of a refusal, or the bytes written and whether they are the whole file: in one form,
+// since the worked cases give figures.
 fn figures(answer: Result<Exported, Refusal>) -> (u8, usize, bool) {
     answer.map_or_else(
         |refusal| (refusal.number(), 0, false),
@@ -58,7 +59,8 @@ fn empty_run_is_whole_in_419_bytes_and_cut_in_346(rt: HostRuntime) -> Result<(),
     Ok(())
 }
 
-// Makes the calls of a dynamic group of one party, of pace halving 1, 10: the records and the export.
+// Makes the calls of a dynamic group of one party, of pace halving 1, 10: the records and the
+// export.
 fn rehearse_pair(
     rt: &impl Abort,
     steps: &mut [Step],

@@ -1,4 +1,5 @@
-// Runs played by hand, with their figures: shown from the rules, and made again through the public calls.
+// Runs played by hand, with their figures: shown from the rules, and made again through the public
+// calls.
 #![tactic(auto)]
 
 #[cfg(test)]

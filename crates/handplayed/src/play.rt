@@ -34,7 +34,8 @@ pub(crate) fn number<R, F: FnOnce(R) -> u8>(answer: Result<(), R>, told: F) -> u
     answer.err().map_or(0, told)
 }
 
-// What a run of one party came to: the ticks at which the root and the party stopped, if they did, the beats sent, and D.
+// What a run of one party came to: the ticks at which the root and the party stopped, if they did,
+// the beats sent, and D.
 #[derive(Drop)]
 pub(crate) struct Outcome {
     pub(crate) root_stop: Option<u32>,

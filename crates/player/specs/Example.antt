@@ -19,4 +19,5 @@ pub record NoticesByHand : Type 0 where
   pub cut_bytes :
       padded_text (notice_lines (Ok record { cut = true; end = Ok tt })) ≡ codes "<!-- cut -->\n" ++ replicate 115 0
   pub cut_length : length (notice_lines (Ok record { cut = true; end = Ok tt })) ≡ 13
-  pub not_played : notice_lines (Err record { byte = 23; number = 15 }) ≡ codes "refused byte 23 number 15\n"
+  pub not_played :
+      notice_lines (Err record { byte = 23; number = 15 }) ≡ codes "refused byte 23 number 15\n"

@@ -6,7 +6,8 @@ use Rattle.player.specs.Playing.{Stop, stop_told}
 
 -- of a file that is not played: the byte place, and the number of the question
 unfoldable pub refused_line : ℕ → ℕ → List ℕ
-refused_line byte n = codes "refused byte " ++ decimal byte ++ codes " number " ++ decimal n ++ codes "\n"
+refused_line byte n =
+    codes "refused byte " ++ decimal byte ++ codes " number " ++ decimal n ++ codes "\n"
 
 unfoldable pub cut_line : Bool → List ℕ
 cut_line true = codes "<!-- cut -->\n"
@@ -14,7 +15,9 @@ cut_line false = []
 
 -- the order at which the playing stopped, and the number of the group's refusal
 unfoldable pub stopped_line : ℕ → ℕ → List ℕ
-stopped_line order n = codes "<!-- refused order " ++ decimal order ++ codes " number " ++ decimal n ++ codes " -->\n"
+stopped_line order n =
+    codes "<!-- refused order " ++ decimal order ++ codes " number " ++ decimal n
+    ++ codes " -->\n"
 
 -- no line where the playing came to its end
 abbrev pub line_of : (number : ℕ) → (order : ℕ) → List ℕ

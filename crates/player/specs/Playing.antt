@@ -1,4 +1,5 @@
--- Orders played over a group: the calls that each asks for, and what comes of making them up to the first refusal.
+-- Orders played over a group: the calls that each asks for, and what comes of making them up to the
+-- first refusal.
 use Rattle.std.specs.Prelude.{◌≡◌, ℕ, zero, suc, ◌+◌, ◌-◌, List, [], ◌∷◌, ◌++◌, replicate, Some, None, Ok, Err, Option, Result}
 use Rattle.pace.specs.declared.meaning.Pace.{Ghosts}
 use Rattle.slots.specs.declared.SlotList.{SlotList}
@@ -38,11 +39,13 @@ abbrev pub at_most_one : Option Call → List Call
 at_most_one None = []
 at_most_one (Some call) = call ∷ []
 
--- the calls that an order asks for at a clock: a tick for each that is missing to the order's, and then its own
+-- the calls that an order asks for at a clock: a tick for each that is missing to the order's, and
+-- then its own
 abbrev pub calls_for : ℕ → Order → List Call
 calls_for clock o = replicate (o.tick - clock) Tick ++ at_most_one (own_call o)
 
--- where the playing ended: the place of the order, and the number of the refusal; 0 and 0 where each order was played
+-- where the playing ended: the place of the order, and the number of the refusal; 0 and 0 where
+-- each order was played
 pub record Stop : Type 0 where
   pub order : ℕ
   pub number : ℕ
@@ -80,9 +83,9 @@ abbrev pub stop_told : Result (Unit {0}) PlayStop → Stop
 stop_told (Ok u) = record { order = 0; number = 0 }
 stop_told (Err x) = record { order = x.order; number = fault_number x.fault }
 
--- the orders were played, up to the first refusal, at which the answer stops: a run of their calls by
--- the rules. Where steps from the opening on had brought the group to where it stood, both together
--- keep the promise of a run
+-- the orders were played, up to the first refusal, at which the answer stops: a run of their calls
+-- by the rules. Where steps from the opening on had brought the group to where it stood, both
+-- together keep the promise of a run
 pub record Plays {A : Type 0} {d : Ghosts A} (orders : List Order) (g g' : Group A d)
     (l l' : SlotList Happening) (answer : Result (Unit {0}) PlayStop) : Type 0 where
   pub stays : Stays g g' l l'
@@ -90,5 +93,6 @@ pub record Plays {A : Type 0} {d : Ghosts A} (orders : List Order) (g g' : Group
   pub after : state g' l' ≡ (playing (rules g l) 0 orders (state g l)).state
   pub run : RunOf (rules g l) (playing (rules g l) 0 orders (state g l)).calls
       (state g l) (state g' l')
-  pub promise : (before : List Step) → Rehearsed (rules g l) (opening (rules g l)) before (state g l) →
+  pub promise : (before : List Step) →
+      Rehearsed (rules g l) (opening (rules g l)) before (state g l) →
       KeepsTheRules (rules g l) (before ++ run.steps) (state g' l')

@@ -8,7 +8,7 @@ use Rattle.protocol.specs.declared.plan.Plan.{Plan}
 use Rattle.protocol.specs.State.{opening}
 use Rattle.protocol.specs.Plans.{parties_no}
 use Rattle.protocol.specs.Promise.{KeepsTheRules}
-use Rattle.runs.specs.Runs.{RunOf}
+use Rattle.runs.specs.Runs.{RunOf, rules_over}
 use Rattle.orders.specs.declared.fault.ReadFault.{ReadFault}
 use Rattle.orders.specs.declared.order.Order.{Order}
 use Rattle.orders.specs.declared.start.Start.{Start}
@@ -16,10 +16,11 @@ use Rattle.orders.specs.Faults.{fault_number}
 use Rattle.orders.specs.Loading.{load_outcome}
 use Rattle.graphml.specs.declared.answer.Exported.{Exported}
 use Rattle.graphml.specs.declared.answer.Refusal.{Refusal}
-use Rattle.graphml.specs.Answer.{refusal_number, exported}
+use Rattle.graphml.specs.Answer.{refusal_number, run_answer}
+use Rattle.graphml.specs.Lent.{Lent}
 use Rattle.graphml.specs.Shown.{ShowsTheRun}
-use Rattle.text.specs.declared.line_bytes.LineBytes.{LineBytes}
 use Rattle.text.specs.Lines.{AnsweredAs}
+use Rattle.player.specs.declared.program.Printed.{Printed}
 use Rattle.player.specs.FilePace.{pace_of}
 use Rattle.protocol.specs.Rules.{Rules}
 use Rattle.player.specs.Playing.{Stop, Playing, playing}
@@ -42,18 +43,23 @@ set_up_no s = or_else (limits_no s.tmin s.tmax) (cap_and_plan_no s)
 abbrev pub orders_run : Rules → List Order → Playing
 orders_run rules orders = playing rules 0 orders (opening rules)
 
--- what a run of a file goes by: its log has as many slots as were lent for it
-abbrev pub file_rules : Meaning → Plan → List Happening → Rules
-file_rules m plan slots = record { meaning = m; plan = plan; room = length slots }
+-- what came of a file: the log's slots and the output, and what is printed, first so many bytes of
+-- the output and then lines
+pub record Outcome : Type 0 where
+  pub log : Lent Happening
+  pub out : Lent ℕ
+  pub bytes : ℕ
+  pub lines : List ℕ
 
--- what is printed: so many bytes of the output, and then lines
+-- what is printed of a run that was exported, or not
 abbrev pub Prints : Result Exported Refusal → Stop → (bytes : ℕ) (lines : List ℕ) → Type 0
-Prints (Ok e) stop bytes lines = (bytes ≡ e.bytes) × (lines ≡ cut_line (not e.whole) ++ stop_line stop)
-Prints (Err e) stop bytes lines = (bytes ≡ 0) × (lines ≡ refused_line 0 (refusal_number e))
+Prints (Ok e) stop bytes lines =
+    (bytes ≡ e.bytes) × (lines ≡ cut_line (not e.whole) ++ stop_line stop)
+Prints (Err e) stop bytes lines =
+    (bytes ≡ 0) × (lines ≡ refused_line 0 (refusal_number e))
 
--- the log's slots, the output and what is printed, for a file that is played
-pub record Played (rules : Rules) (orders : List Order) (hs hs' : List Happening)
-    (out out' : List ℕ) (bytes : ℕ) (lines : List ℕ) : Type 0 where
+-- the orders are played over a new group
+pub record IsPlayed (rules : Rules) (orders : List Order) (came : Outcome) : Type 0 where
   -- the calls that the orders ask for, up to the first refusal, each with its answer
   pub made : RunOf rules (orders_run rules orders).calls (opening rules)
       (orders_run rules orders).state
@@ -61,39 +67,46 @@ pub record Played (rules : Rules) (orders : List Order) (hs hs' : List Happening
   pub promise : KeepsTheRules rules made.steps (orders_run rules orders).state
   -- the run's records, and behind them what the slots held
   pub log : let records = (orders_run rules orders).state.log in
-      hs' ≡ records ++ drop (length records) hs
+      came.log.after ≡ records ++ drop (length records) came.log.before
   -- the output holds the file of that run
   pub file : let s = (orders_run rules orders).state in
-      ShowsTheRun rules made.steps s out out' (exported s.log rules.plan.n (length out))
+      ShowsTheRun rules made.steps s came.out
+      (run_answer s.log rules.plan.n (length came.out.before))
   pub prints : let ran = orders_run rules orders in
-      Prints (exported ran.state.log rules.plan.n (length out)) ran.stop bytes lines
+      Prints (run_answer ran.state.log rules.plan.n (length came.out.before)) ran.stop
+      came.bytes came.lines
 
--- the same for a file that is not
-pub record NotPlayed (byte n : ℕ) (hs hs' : List Happening) (out out' : List ℕ) (bytes : ℕ) (lines : List ℕ) : Type 0 where
-  pub log : hs' ≡ hs
-  pub output : out' ≡ out
-  pub no_file : bytes ≡ 0
-  pub told : lines ≡ refused_line byte n
+-- nothing is played: a question is answered no, the one of number n, about the file from a byte on
+pub record IsNotPlayed (byte n : ℕ) (came : Outcome) : Type 0 where
+  pub log : came.log.after ≡ came.log.before
+  pub output : came.out.after ≡ came.out.before
+  pub no_file : came.bytes ≡ 0
+  pub told : came.lines ≡ refused_line byte n
 
--- the set-up, by the number of the question that is answered no
-abbrev pub SetUp : ℕ → Meaning → Start → List Order → (hs hs' : List Happening) (out out' : List ℕ) (bytes : ℕ) (lines : List ℕ) → Type 0
-SetUp zero m s orders hs hs' out out' bytes lines =
+-- what the set-up comes to, by the number of its question that is answered no
+abbrev pub SetUpComesTo : ℕ → Meaning → Start → List Order → Outcome → Type 0
+SetUpComesTo zero m s orders came =
     (plan : Plan) × (plan.kind ≡ s.kind) × (plan.n ≡ s.parties)
-    × Played (file_rules m plan hs) orders hs hs' out out' bytes lines
-SetUp (suc k) m s orders hs hs' out out' bytes lines = NotPlayed 0 (suc k) hs hs' out out' bytes lines
+    × IsPlayed (rules_over m plan came.log.before) orders came
+SetUpComesTo (suc k) m s orders came = IsNotPlayed 0 (suc k) came
 
--- the reading, by its answer
-abbrev pub Read : Result Start ReadFault → List Order → (hs hs' : List Happening) (out out' : List ℕ) (bytes : ℕ) (lines : List ℕ) → Type 0
-Read (Ok s) orders hs hs' out out' bytes lines = SetUp (set_up_no s) (pace_of s) s orders hs hs' out out' bytes lines
-Read (Err f) orders hs hs' out out' bytes lines = NotPlayed f.byte (fault_number f) hs hs' out out' bytes lines
+-- what the reading comes to, by its answer
+abbrev pub ReadingComesTo : Result Start ReadFault → List Order → Outcome → Type 0
+ReadingComesTo (Ok s) orders came = SetUpComesTo (set_up_no s) (pace_of s) s orders came
+ReadingComesTo (Err f) orders came = IsNotPlayed f.byte (fault_number f) came
 
--- a file, the slots for its orders and for the log, and the output, before and after; and what is printed
-pub record FileOutcome (file : List ℕ) (os os' : List Order) (hs hs' : List Happening) (out out' : List ℕ) (bytes : ℕ) (lines : List ℕ) : Type 0 where
-  pub orders : os' ≡ (load_outcome file [] os).items ++ (load_outcome file [] os).spare
-  pub came : Read (load_outcome file [] os).answer (load_outcome file [] os).items hs hs' out out' bytes lines
+-- what a file comes to, with the slots lent for its orders
+pub record FileComesTo (file : List ℕ) (orders : Lent Order) (came : Outcome) : Type 0 where
+  pub orders_read : let read = load_outcome file [] orders.before in
+      orders.after ≡ read.items ++ read.spare
+  pub came_to : let read = load_outcome file [] orders.before in
+      ReadingComesTo read.answer read.items came
 
--- the same, the lines being answered as 128 bytes, the rest 0, with their length
-pub record FileRun (file : List ℕ) (os os' : List Order) (hs hs' : List Happening) (out out' : List ℕ) (bytes : ℕ) (notices : LineBytes) : Type 0 where
+-- a file with all that was lent for it, and what is printed; the lines come as 128 bytes, the rest
+-- 0, with their length
+pub record FileRun (file : List ℕ) (orders : Lent Order) (log : Lent Happening) (out : Lent ℕ)
+    (printed : Printed) : Type 0 where
   pub lines : List ℕ
-  pub outcome : FileOutcome file os os' hs hs' out out' bytes lines
-  pub answered : AnsweredAs lines notices
+  pub comes_to : FileComesTo file orders
+      (record { log = log; out = out; bytes = printed.file_bytes; lines = lines })
+  pub answered : AnsweredAs lines printed.notices

@@ -9,15 +9,16 @@ use orders::fault::ReadFault;
 use pace::refusal::Refusal as PaceRefusal;
 use protocol::plan::make::BadPartyCount;
 
+/// What of a file was refused. The library's own refusals come inside it unchanged.
 #[derive(Clone, Copy, Debug, PartialEq, Eq)]
 pub enum FileFault {
-    // a record of the file
+    /// A record of the file.
     Read(ReadFault),
-    // the limits, or the cap
+    /// The limits, or the cap.
     Pace(PaceRefusal),
-    // the number of parties
+    /// The number of parties.
     Plan(BadPartyCount),
-    // the output
+    /// The output.
     Export(ExportRefusal),
 }
 
@@ -64,7 +65,7 @@ impl FileFault {
         }
     }
 
-    // The number of the question that was answered no. Not a `From`, which would not say so.
+    // The number of the question that was answered no.
     pub(crate) fn number(self) -> u8
         ensures { result ≡ file_number self }
     {

@@ -3,27 +3,36 @@ ghost use Rattle.std.specs.Prelude.{◌≡◌, ◌≤◌, ◌++◌, length};
 ghost use Rattle.text.specs.Lines.{padded_text};
 ghost use Rattle.player.specs.Playing.{fault_number, stop_told};
 ghost use Rattle.player.specs.Example.{NoticesByHand};
-ghost use Rattle.player.specs.Notices.{refused_line, cut_line, stopped_line, stop_line, notice_lines};
+ghost use Rattle.player.specs.Notices.{
+  refused_line,
+  cut_line,
+  stopped_line,
+  stop_line,
+  notice_lines,
+};
 
 use crate::play::PlayStop;
 use text::Line;
 use text::line_bytes::LineBytes;
 
-// A file that was played, to its end or to a stop, and whose run was exported, whole or cut.
+/// A file whose orders were played, to their end or to a stop, and whose run was exported, whole or
+/// cut.
 #[derive(Clone, Copy, Debug, PartialEq, Eq)]
 pub struct PlayedFile {
     pub cut: bool,
     pub end: Result<(), PlayStop>,
 }
 
-// A file that was not played: a record, or the group that it asks for, was refused.
+/// A file that was refused: the byte at which the refused record begins, 0 where it is no record,
+/// and the number of the question that was answered no.
 #[derive(Clone, Copy, Debug, PartialEq, Eq)]
 pub struct RefusedFile {
     pub byte: usize,
     pub number: u8,
 }
 
-// The lines that tell what came of a file. No Display, since they are answered as the bytes of one line with their length.
+/// The lines that tell of a file what its run does not show, each ended by a line feed. There are
+/// none for a file that was played to its end and exported whole.
 pub fn notices(outcome: Result<PlayedFile, RefusedFile>) -> LineBytes
     ensures bytes { result.bytes ≡ padded_text (notice_lines outcome) }
     ensures len { result.len ≡ length (notice_lines outcome) }

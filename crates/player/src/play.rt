@@ -14,10 +14,10 @@ use protocol::refusal::Refusal;
 use runs::making::tick_to;
 use slots::SlotList;
 
-// Why the playing of an order ended; a type of its own, that the group's refusal comes inside it unchanged.
+/// Why the playing of an order ended.
 #[derive(Clone, Copy, Debug, PartialEq, Eq)]
 pub enum PlayFault {
-    // the group refused a call
+    /// The group refused a call.
     Refused(Refusal),
 }
 
@@ -30,7 +30,7 @@ impl From<Refusal> for PlayFault {
 }
 
 impl PlayFault {
-    // The number of the question that was answered no. Not a `From`, which would not say so.
+    // The number of the question that was answered no.
     pub(crate) fn number(self) -> u8
         ensures { result ≡ fault_number self }
     {
@@ -40,14 +40,14 @@ impl PlayFault {
     }
 }
 
-// The order at which the playing ended, by its place from 0, and why.
+/// The order at which the playing ended, by its place from 0, and why.
 #[derive(Clone, Copy, Debug, PartialEq, Eq)]
 pub struct PlayStop {
     pub order: usize,
     pub fault: PlayFault,
 }
 
-// The call that an order asks for beside its ticks; a wait asks for none.
+/// The call that an order asks for beside its ticks; a wait asks for none.
 pub fn own_call(order: Order) -> Option<Call>
     ensures { result ≡ own_call order }
 {
@@ -61,7 +61,7 @@ pub fn own_call(order: Order) -> Option<Call>
     }
 }
 
-// Ticks until the clock is the order's tick, and then acts.
+// Ticks until the clock is the order's tick, and then makes the order's call.
 fn obey<P: Pace>(
     group: &mut Group<P>,
     log: &mut SlotList<'_, Happening>,
@@ -77,7 +77,8 @@ fn obey<P: Pace>(
     Ok(())
 }
 
-// Plays the orders, first to last; the first refusal ends the playing, and what was done before it stands.
+/// Plays the orders, first to last; the first refusal ends the playing, and what was done before it
+/// stands.
 pub fn play<P: Pace>(
     group: &mut Group<P>,
     orders: &SlotList<'_, Order>,

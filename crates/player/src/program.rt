@@ -2,8 +2,9 @@
 ghost use Rattle.std.specs.Prelude.{◌≤◌, length};
 ghost use Rattle.pace.specs.Cap.{capped_meaning};
 ghost use Rattle.slots.specs.Slots.{items};
-ghost use Rattle.player.specs.Told.{bytes_told, lines_told};
-ghost use Rattle.player.specs.Program.{cap_and_plan_no, SetUp, FileOutcome, FileRun};
+ghost use Rattle.graphml.specs.Lent.{lent};
+ghost use Rattle.player.specs.Told.{bytes_told, outcome_of};
+ghost use Rattle.player.specs.Program.{cap_and_plan_no, SetUpComesTo, FileComesTo, FileRun};
 
 use crate::fault::FileFault;
 use crate::file_pace::FilePace;
@@ -20,7 +21,8 @@ use protocol::happening::Happening;
 use slots::SlotList;
 use text::line_bytes::LineBytes;
 
-// What is printed: the first `file_bytes` bytes of the output, and then the notices.
+/// What a program prints of a file: the first `file_bytes` bytes of the output, and then the
+/// notices. Of a file that is not played no byte of the output is printed.
 #[derive(Clone, Copy, Debug, PartialEq, Eq)]
 pub struct Printed {
     pub file_bytes: usize,
@@ -28,20 +30,22 @@ pub struct Printed {
 }
 
 // A run that was exported.
-#[derive(Clone, Copy, Debug, PartialEq, Eq)]
+#[derive(Clone, Copy)]
 struct Ran {
     file_bytes: usize,
     told: PlayedFile,
 }
 
-// Reads the file into `order_slots`, plays its orders with the log in `log_slots`, and exports the run into `out`.
+/// Reads the file into `order_slots`, plays its orders with the log in `log_slots`, and exports the
+/// run into `out`. It never fails: whatever is refused is told in the notices, by its number.
 pub fn run_file(
     input: &[u8],
     order_slots: &mut [Order],
     log_slots: &mut [Happening],
     out: &mut [u8],
 ) -> Printed
-    ensures run { FileRun input.now order_slots.old order_slots.new log_slots.old log_slots.new out.old out.new result.file_bytes result.notices }
+    ensures run { FileRun input.now (lent order_slots.old order_slots.new)
+        (lent log_slots.old log_slots.new) (lent out.old out.new) result }
     ensures within { result.file_bytes ≤ length out.old }
 {
     let ran = read_and_play(input, order_slots, log_slots, out);
@@ -58,7 +62,8 @@ fn read_and_play(
     log_slots: &mut [Happening],
     out: &mut [u8],
 ) -> Result<Ran, FileFault>
-    ensures run { FileOutcome input.now order_slots.old order_slots.new log_slots.old log_slots.new out.old out.new (bytes_told result) (lines_told result) }
+    ensures run { FileComesTo input.now (lent order_slots.old order_slots.new)
+        (outcome_of (lent log_slots.old log_slots.new) (lent out.old out.new) result) }
     ensures within { bytes_told result ≤ length out.old }
 {
     let mut orders = SlotList::new(order_slots);
@@ -75,7 +80,9 @@ fn play_at<P: Pace + Drop>(
     log_slots: &mut [Happening],
     out: &mut [u8],
 ) -> Result<Ran, FileFault>
-    ensures run { SetUp (cap_and_plan_no start) (capped_meaning start.cap (P.means pace)) start (items orders.now) log_slots.old log_slots.new out.old out.new (bytes_told result) (lines_told result) }
+    ensures run { SetUpComesTo (cap_and_plan_no start) (capped_meaning start.cap (P.means pace)) start
+        (items orders.now)
+        (outcome_of (lent log_slots.old log_slots.new) (lent out.old out.new) result) }
     ensures within { bytes_told result ≤ length out.old }
 {
     let (pace, plan) = set_up(pace, start)?;

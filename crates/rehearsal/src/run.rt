@@ -1,7 +1,9 @@
 // Plays any calls over a new group of any pace.
 ghost use Rattle.std.specs.Prelude.{◌≡◌, ◌≤◌, length, map};
 ghost use Rattle.protocol.specs.Rehearsals.{call_of};
-ghost use Rattle.rehearsal.specs.Promise.{Promised, rules_for};
+ghost use Rattle.runs.specs.Runs.{rules_over};
+ghost use Rattle.graphml.specs.Lent.{lent};
+ghost use Rattle.rehearsal.specs.Promise.{Promised};
 
 use graphml::answer::{Exported, Refusal};
 use graphml::export::export;
@@ -13,7 +15,8 @@ use protocol::plan::Plan;
 use runs::making::make_all;
 use slots::SlotList;
 
-// What a run came to: the group, how many of the slots hold its log, and what the export answered.
+/// What a run came to: the group, how many of the slots hold its log, from the first on, and what the
+/// export answered.
 #[derive(Drop)]
 pub struct Rehearsal<P: Pace> {
     pub group: Group<P>,
@@ -21,7 +24,8 @@ pub struct Rehearsal<P: Pace> {
     pub exported: Result<Exported, Refusal>,
 }
 
-// Opens a group, makes every call of `steps` in turn, each with its answer put beside it, and exports the run.
+/// Opens a group, makes every call of `steps` in turn, refused or not, puts each answer beside its
+/// call, and exports the run into `out`.
 pub fn rehearse<P: Pace>(
     plan: Plan,
     pace: P,
@@ -34,8 +38,8 @@ pub fn rehearse<P: Pace>(
     ensures records { result.records ≡ result.group.table.logged }
     ensures within { result.records ≤ length slots.new }
     ensures calls { map call_of steps.new ≡ map call_of steps.old }
-    ensures promise { Promised (rules_for (P.means pace) plan slots.old) steps.new
-        result.group.table result.records slots.old slots.new out.old out.new result.exported }
+    ensures promise { Promised (rules_over (P.means pace) plan slots.old) steps.new
+        (lent slots.old slots.new) (lent out.old out.new) result }
 {
     let mut log = SlotList::new(slots);
     let mut group = Group::open(pace, plan);

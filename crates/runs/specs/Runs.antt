@@ -1,8 +1,10 @@
 -- What every run is, and what several calls do to it.
-use Rattle.std.specs.Prelude.{◌≡◌, ℕ, List, map}
+use Rattle.std.specs.Prelude.{◌≡◌, ℕ, List, length, map}
+use Rattle.pace.specs.Meaning.{Meaning}
 use Rattle.pace.specs.declared.meaning.Pace.{Ghosts}
 use Rattle.slots.specs.declared.SlotList.{SlotList}
 use Rattle.protocol.specs.declared.happening.Happening.{Happening}
+use Rattle.protocol.specs.declared.plan.Plan.{Plan}
 use Rattle.protocol.specs.declared.call.Call.{Call}
 use Rattle.protocol.specs.declared.call.Step.{Step}
 use Rattle.protocol.specs.Rules.{Rules}
@@ -12,6 +14,10 @@ use Rattle.protocol.specs.Rehearsals.{Rehearsed, call_of}
 use Rattle.protocol.specs.Promise.{KeepsTheRules}
 use Rattle.group.specs.declared.group.Group.{Group}
 use Rattle.group.specs.Does.{rules, state, Stays}
+
+-- what a run goes by whose log has as many slots as were lent for it
+abbrev pub rules_over : Meaning → Plan → List Happening → Rules
+rules_over m plan slots = record { meaning = m; plan = plan; room = length slots }
 
 -- there are steps that lead there from the opening, and they keep the promise of a run
 abbrev pub IsRun : Rules → State → Type 0

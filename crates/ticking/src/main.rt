@@ -1,5 +1,6 @@
-// For the benchmark: opens the group that the order file on standard input asks for, without its cap, and closes every tick, one by one, up to the tick
-// of the last order. The orders themselves are not carried out.
+// For the benchmark: opens the group that the order file on standard input asks for, without its
+// cap, and closes every tick, one by one, up to the tick of the last order. The orders themselves are
+// not carried out.
 #![tactic(auto)]
 
 use orders::load::load;
@@ -16,7 +17,8 @@ use slots::timed::Timed;
 use std::io;
 use std::io::Read;
 
-// Answers the clock at which the ticks ended; a refused one ends them too. None where the limits or the plan are refused.
+// Answers the clock at which the ticks ended; a refused one ends them too. None where the limits or
+// the plan are refused.
 fn tick_to(start: Start, until: u32, slots: &mut [Happening]) -> Option<u32> {
     let pace = FilePace::new(start).ok()?;
     let plan = Plan::new(start.kind, start.parties).ok()?;

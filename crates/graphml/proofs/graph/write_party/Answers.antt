@@ -1,6 +1,6 @@
 use Rattle.std.proofs.Common.{◌≡◌, arith}
 use Rattle.graphml.specs.Body.{party_then}
-use Rattle.graphml.specs.Writer.{writer, drawn}
+use Rattle.graphml.specs.Writer.{writer, after_fitting}
 use Rattle.graphml.specs.Numbers.{Fits}
 use Rattle.graphml.proofs.Party.{no_graph, all_in, no_graph_numbers, all_numbers}
 use Rattle.graphml.proofs.graph.write_party.Goals as goal
@@ -21,7 +21,7 @@ returns-in-Err-clause-numbers c =
     let b = c.in-Err.ensures in
     no_graph_numbers c.args.party c.args.log.now c.requires a.room a.after (omega arith) b.room
 
-closed : (c : After-close-run) → writer c.close-run.new.out ≡ drawn (writer c.args.out.now) (party_then c.args.log.now c.args.party none)
+closed : (c : After-close-run) → writer c.close-run.new.out ≡ after_fitting (writer c.args.out.now) (party_then c.args.log.now c.args.party none)
 closed c =
     let a = c.in_ok-node.ensures in
     let b = c.in-Ok.ensures in

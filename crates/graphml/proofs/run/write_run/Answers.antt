@@ -2,7 +2,7 @@ use Rattle.std.proofs.Common.{◌≡◌, ◌-◌, ◌≤◌, length, sym, ap, �
 use Rattle.graphml.specs.Numbers.{Fits}
 use Rattle.graphml.specs.Writer.{Writer}
 use Rattle.graphml.specs.Body.{body}
-use Rattle.graphml.specs.Answer.{in_frame, part, over, written}
+use Rattle.graphml.specs.Answer.{in_frame, part, over, run_bytes}
 use Rattle.graphml.proofs.Whole.{finished, answered, left_as_written, closes, whole_text, shown}
 use Rattle.graphml.proofs.run.write_run.Goals as goal
 use Rattle.markup.proofs.Ending.{ends_at}
@@ -20,7 +20,7 @@ returns c =
     let told = c.is_ok-whole.ensures.value ∙ c.write_body-written.ensures.whole in
     let all = sym (told ∙ ap (λ x. all_fits spelling x.out.room (body log n)) c.open-run.ensures.after) in
     let end : c.close.new.out.bytes.now ≡ over (in_frame (part log n (length out))) out = f.bytes in
-    let left : c.close.new.out.bytes.now ≡ written log n out = left_as_written out log n h end in
+    let left : c.close.new.out.bytes.now ≡ run_bytes log n out = left_as_written out log n h end in
     let same = f.same in
     let numbers : Each Fits (part log n (length out)) = subst (λ (s : Writer). Each Fits (fitting_part spelling s.out.room (body log n))) c.open-run.ensures.after c.write_body-written.ensures.numbers in
     record {
