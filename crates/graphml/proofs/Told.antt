@@ -1,4 +1,4 @@
--- What is read of a forest: its happenings and its edges in the order in which they are begun.
+-- What is read of a forest: its happenings and its edges, in their order there.
 use Rattle.std.proofs.Common.{◌≡◌, ℕ, ◌+◌, ◌-◌, ◌^◌, ◌<◌, leb, List, [], ◌∷◌, ◌++◌, length, take, codes, decimal, Some, Option, refl, sym, ap, ◌∙◌, subst, append_assoc, append-nil, length-append, arith, ⊎_elim}
 use Rattle.std.specs.List.{flat_map}
 use Rattle.std.proofs.Math.Seq.{take-append_seam}

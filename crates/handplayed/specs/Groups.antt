@@ -56,7 +56,7 @@ new m plan =
     let rules : Rules = record { meaning = m; plan = plan; room = 100 } in
     record { rules = rules; before = opening rules }
 
--- a beat whose last tick is the clock is under way to a party that is in
+-- a party that is in, and a due beat on its way to it
 abbrev pub with_beat : (slots clock : ℕ) → Setting
 with_beat slots clock =
     let p : Party = party (noted On false 0) (owning (Live In) clock) (legs_of (Some (beat clock false 0)) None None) in

@@ -106,7 +106,7 @@ runs =
       rolls = On ∷ [];
       records = 2;
     }
-    -- a beat is sent at 1; the tick at 2 is refused by 11 until beat and reply have come, and nobody stops
+    -- the root sends at 1; the tick at 2 is refused by 11 until beat and reply have come, and nobody stops
     ∷ example (calls (new (halves 1 1) (one Closed)) tick_waits)
     record nothing {
       waits = 1 ∷ [];

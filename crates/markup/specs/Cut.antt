@@ -27,7 +27,7 @@ fitting_part w room (element t i a) =
     (element t (fitting_part w (room - size w t) i) none))
     none
 
--- the elements in the order in which they are begun
+-- the elements, each before those that begin later
 abbrev pub elements : {T : Type 0} → Forest T → List T
 elements none = []
 elements (element t i a) = t ∷ (elements i ++ elements a)

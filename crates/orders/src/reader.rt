@@ -1,4 +1,4 @@
-// Walks the bytes of a file, one record at a time.
+// Goes over the bytes of a file, record by record.
 ghost use Rattle.std.specs.Prelude.{◌≡◌, ◌≤◌, if◌then◌else◌, length, take, drop};
 ghost use Rattle.orders.specs.Reading.{is_whole, start_at, place_after_start, order_at, place_after_order, with_place};
 

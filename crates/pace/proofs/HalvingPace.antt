@@ -105,7 +105,7 @@ module _ (a b : ℕ) (low : 1 ≤ a) (ordered : a ≤ b) (high : b < 2 ^ 32) whe
 
 -- ---- what follows of the waits
 
--- m is the last place, and the difference of the lengths in bits or one less
+-- m is the last place; tmax is m or m + 1 bits longer than tmin
 record Found (l : Limits) (m : ℕ) : Type 0 where
   last : Last l.tmin l.tmax m
   lengths : LengthsApart l.tmin l.tmax m

@@ -6,6 +6,6 @@ use Rattle.pace.specs.Meaning.{Meaning, is_wait_count}
 abbrev pub count_no : ℕ → ℕ
 count_no m = if is_wait_count m then 0 else 2
 
--- the first m waits of a pace, or all when there are fewer
+-- a pace's waits, of which no more than m are left
 abbrev pub capped_meaning : ℕ → Meaning → Meaning
 capped_meaning m p = record { tmin = p.tmin; tmax = p.tmax; waits = take m p.waits }

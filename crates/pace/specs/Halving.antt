@@ -16,7 +16,7 @@ pub record Largest (tmin tmax k : ℕ) : Type 0 where
 abbrev pub bit_length : ℕ → ℕ
 bit_length x = 32 - count_leading_zeros 32 x
 
--- k is the difference of the two lengths in bits, or one less
+-- tmax is k or k + 1 bits longer than tmin
 abbrev pub LengthsApart : ℕ → ℕ → ℕ → Type 0
 LengthsApart tmin tmax k =
     (bit_length tmin + k ≡ bit_length tmax) ⊎ (bit_length tmin + k + 1 ≡ bit_length tmax)

@@ -7,8 +7,8 @@ use crate::limits::Limits;
 
 /// How long the root waits in a round, by how many rounds in a row it has missed a party.
 ///
-/// A pace means its limits and the list of its waits; `lawful` shows that there are 1 to 64 of
-/// them, the first of them tmax, and all within the limits.
+/// What a pace means are two limits and its waits, listed; `lawful` shows that these number from
+/// 1 to 64, the first of them being tmax, and lie within the limits.
 pub trait Pace {
     ghost means: { Self → Meaning };
 
@@ -17,7 +17,7 @@ pub trait Pace {
         ensures tmin { result.tmin ≡ (means self.now).tmin }
         ensures tmax { result.tmax ≡ (means self.now).tmax };
 
-    /// The number of waits, 1 to 64.
+    /// How many waits there are: at least 1, at most 64.
     fn rounds(&self) -> u32
         ensures { result ≡ length (means self.now).waits };
 

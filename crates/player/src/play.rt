@@ -61,7 +61,7 @@ pub fn own_call(order: Order) -> Option<Call>
     }
 }
 
-// Ticks until the clock is the order's tick, and then makes the order's call.
+// Brings the clock to the tick of the order, and then makes the order's call.
 fn obey<P: Pace>(
     group: &mut Group<P>,
     log: &mut SlotList<'_, Happening>,

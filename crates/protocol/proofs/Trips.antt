@@ -47,7 +47,7 @@ module _ (rules : Rules) (sound : Lawful rules.meaning) where
   puts before (Join j) i leg b z lo hi e = inr (later before (Join j) i leg b z lo hi e refl)
   puts before (Leave j) i leg b z lo hi e = inr (later before (Leave j) i leg b z lo hi e refl)
 
-  -- the last tick of a beat on a leg, by its sending
+  -- until when a beat on a leg is under way, by its sending
 
   module _ (calls : List Call) (i leg : ℕ) (b : Beat) (lo : 1 ≤ i) (hi : i ≤ rules.plan.n) where
     written_at : (before : List Call) (call : Call) (k : ℕ) → let now = run_state rules before in

@@ -260,7 +260,7 @@ Trusted On n o g trip d a l =
     × Ahead g.out (a + trip) l (o.since + d)
 Trusted Struck n o g trip d a l = Unit {0}
 
--- where each loss and crash was refused (the Bool), the root runs and nobody has crashed or stopped
+-- where no loss and no crash was granted (the Bool), the root runs and nobody has crashed or stopped
 abbrev pub Clean : Bool → Root → Note → Own → Legs → ℕ → ℕ → ℕ → ℕ → Type 0
 Clean false r n o g trip d a l = Unit {0}
 Clean true r n o g trip d a l = Up r × Well o.standing × Trusted n.roll n o g trip d a l
@@ -309,7 +309,7 @@ pub record Kept (m : Terms) (kind : GroupKind) (q : Bool) (c : ℕ) (r : Root) (
   pub cause : Cause p.own.standing r
   -- joining beats go out every tmin ticks from the joining on
   pub beckoned : Beckoned m.tmin m.trip c p.own.standing p.own.since p.legs.entry
-  -- where each loss and crash was refused, nobody has crashed or stopped
+  -- where no loss and no crash was granted, nobody has crashed or stopped
   pub spared : Clean q r p.note p.own p.legs m.trip m.patience a l
 
 -- the numbers of a pace in a group of such a kind

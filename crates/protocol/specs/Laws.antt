@@ -24,7 +24,7 @@ EndedAt p e = (how : Ending) × (g : Stage) × (p.own.standing ≡ Ended how e g
 abbrev pub RootEndedAt : State → ℕ → Type 0
 RootEndedAt s e = (how : RootEnding) × (s.table.root ≡ Down how e)
 
--- where a party on the roll has ended, the root ends within the patience of a party
+-- after the end of a party on the roll the root ends within the patience of a party
 pub record RootFollows (rules : Rules) (s : State) : Type 0 where
   pub root_follows :
       (i e : ℕ) → 1 ≤ i → i ≤ rules.plan.n → OnRoll (the i s.table) → EndedAt (the i s.table) e →

@@ -18,7 +18,7 @@ pub record InOrder (clock : ℕ) (log : List Happening) : Type 0 where
 abbrev pub OwnedUpTo : ℕ → List Happening → Type 0
 OwnedUpTo n log = (k : ℕ) → k < length log → (happening_at log k).owner ≤ n
 
--- the log has as many records as the group wrote, and none of them is later than the clock
+-- the log has just the length that the group counted, and no record after the clock
 pub record OwnLog (s : State) : Type 0 where
   pub counted : length s.log ≡ s.table.logged
   pub none_later : (k : ℕ) → k < length s.log → (happening_at s.log k).tick ≤ s.table.clock

@@ -52,7 +52,7 @@ on_roll On = true
 on_roll Off = false
 on_roll Struck = false
 
--- the legs: 1 out from the root, 2 the reply, 3 the joining beats
+-- the legs: 1 to the party, 2 its replies, 3 its joining beats
 
 abbrev pub on_leg : ℕ → Party → Option Beat
 on_leg leg p =

@@ -32,13 +32,13 @@ pub record KeepsTheRules (rules : Rules) (steps : List Step) (s : State) : Type 
   pub by_the_rules : Rehearsed rules (opening rules) steps s
   -- the clock tells how many ticks were granted
   pub clock_counts_the_granted_ticks : s.table.clock ≡ granted_ticks steps
-  -- a party on the roll ended at tick c and the clock is past c + D: the root has ended
+  -- once the clock is beyond c + D, c being the end of a party on the roll, the root no longer runs
   pub root_ends_within_D_of_a_party_on_the_roll : RootFollows rules s
-  -- the root ended at tick c and the clock is past c + D + trip: each party on the roll has ended
+  -- once it is beyond r + D + trip, r being the end of the root, nobody on the roll is live
   pub parties_on_the_roll_end_within_D_and_a_trip_of_the_root : PartiesFollow rules s
-  -- a party stopped that was in just before: the root has ended, and no later than that party
+  -- a party that stops while it is in does so no earlier than the root's end
   pub party_that_was_in_stops_no_earlier_than_the_root : StopsForCause rules s
-  -- each loss and crash was refused: nobody has stopped
+  -- where no loss and no crash was granted, nobody has stopped
   pub nobody_stops_unharmed :
       unharmed (map call_of steps) (map answer_of steps) ≡ true → NobodyStopped rules s
   -- each beat on a leg, each arrival and each loss goes back to its sending

@@ -1,4 +1,4 @@
--- A struck party is struck for good.
+-- Striking is final.
 use Rattle.std.specs.Prelude.{◌≡◌, ℕ, ◌≤◌, List, ◌++◌, None}
 use Rattle.protocol.specs.declared.party.Roll.TheVariants.{Struck}
 use Rattle.protocol.specs.declared.call.Call.{Call}

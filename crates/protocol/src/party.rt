@@ -85,7 +85,7 @@ pub struct Note {
 #[derive(Clone, Copy, Debug, PartialEq, Eq)]
 pub struct Own {
     pub standing: Standing,
-    /// The tick when it last heard the root, or joined.
+    /// When it last heard the root, or joined.
     pub since: u32,
 }
 

@@ -18,7 +18,7 @@ pub enum Refusal {
     NoBeat = 9,
     /// The clock has come to its end.
     ClockAtEnd = 10,
-    /// A beat whose last tick is the clock is still on its leg.
+    /// A due beat is still on its leg: the clock is its last tick.
     BeatDue = 11,
     /// The log has not as many free slots as the call may need.
     NoSlot = 12,
@@ -41,16 +41,14 @@ impl fmt::Display for Refusal {
 
     fn fmt<W: fmt::Write>(&self, f: &mut fmt::Formatter<W>) -> fmt::Result {
         f.write_str(match self {
-            Refusal::NoSuchParty => "is the party one of the plan's?",
-            Refusal::KindForbids => "does the kind of the group allow it?",
-            Refusal::WrongState => "is the party or root in the state that this wants?",
-            Refusal::NoBeat => "is the leg 1 to 3, with a beat on it?",
-            Refusal::ClockAtEnd => "is the clock below 4000000000?",
-            Refusal::BeatDue => {
-                "has each beat whose last tick is the clock been delivered or lost?"
-            }
-            Refusal::NoSlot => "are enough slots of the log free?",
-            Refusal::LogDiffers => "is the log the one that the group wrote?",
+            Refusal::NoSuchParty => "does the plan have this party?",
+            Refusal::KindForbids => "can this be done in a group of this kind?",
+            Refusal::WrongState => "is the party, or the root, where this can happen to it?",
+            Refusal::NoBeat => "is it one of the three legs, and does it hold a beat?",
+            Refusal::ClockAtEnd => "is the clock still short of 4000000000?",
+            Refusal::BeatDue => "is every beat off its leg whose last tick this is?",
+            Refusal::NoSlot => "is there room in the log?",
+            Refusal::LogDiffers => "is this the log that the group wrote?",
         })
     }
 }

@@ -180,8 +180,8 @@ impl Party {
         }
     }
 
-    /// The beat arrives from its leg: at the party from leg 1, at the root from legs 2 and 3. A root
-    /// that has ended does nothing more. `place` is the log place of the party's reply.
+    /// The beat comes off its leg: leg 1 brings it to the party, the other two to the root, which does
+    /// nothing more once it is down. `place` is the log place of the party's reply.
     pub fn arrive(&mut self, clock: u32, root: Root, leg: u8, beat: Beat, place: usize)
         ensures { self.new ≡ arrives clock root leg beat place self.old }
     {

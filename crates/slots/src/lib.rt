@@ -7,8 +7,8 @@ pub mod list;
 pub mod refusal;
 pub mod timed;
 
-/// A list in slots that were lent: the first slots hold its records, in the order in which they
-/// were appended, and the others are spare.
+/// A list in slots that were lent: the first slots hold its records, the oldest in front, and the
+/// others are spare.
 ///
 /// A record may be of any type; `append` wants one that tells its tick.
 #[derive(Drop)]

@@ -10,6 +10,6 @@ line_with t more = if nat_le (length t + length more) 128 then t ++ more else t
 abbrev pub padded_text : List ℕ → List ℕ
 padded_text t = t ++ replicate (128 - length t) 0
 
--- a text answered as 128 bytes, the rest 0, with its length
+-- a text that is handed out as 128 bytes, with zeros behind it, and its length
 abbrev pub AnsweredAs : List ℕ → LineBytes → Type 0
 AnsweredAs t answer = (answer.bytes ≡ padded_text t) × (answer.len ≡ length t)

@@ -22,7 +22,7 @@ can_crash (suc i) s = live (the (suc i) s.table).own.standing
 abbrev pub crash_number : Plan → ℕ → ℕ → State → ℕ
 crash_number plan room i s = asks (nat_le i plan.n) 6 (asks (can_crash i s) 8 (log_asks 2 room s))
 
--- only a live party crashes, and it keeps the clock at its end and its stage before
+-- only a live party crashes; it keeps when that was, and its stage before
 abbrev pub standing_after_crash : Standing → ℕ → Standing
 standing_after_crash Outside clock = Outside
 standing_after_crash (Live g) clock = Ended Crashed clock g

@@ -25,13 +25,13 @@ beat_number plan room i leg s =
 
 -- at the party
 
--- the stage of a party that has heard the root: a joining one is now in
+-- the stage of a party once it has heard the root: a joining one gets in
 abbrev pub heard_stage : Stage → Stage
 heard_stage Joining = In
 heard_stage In = In
 heard_stage Leaving = Leaving
 
--- a leaving party's reply is parting
+-- a reply is parting just where the party is leaving
 abbrev pub parts : Stage → Bool
 parts Joining = false
 parts In = false

@@ -34,7 +34,7 @@ abbrev pub due_on : ℕ → Option Beat → Bool
 due_on clock None = false
 due_on clock (Some b) = b.last == clock
 
--- a beat whose last tick is the clock is still on a leg
+-- a due beat is still on a leg: the clock is its last tick
 abbrev pub due : ℕ → Party → Bool
 due clock p = due_on clock p.legs.out || (due_on clock p.legs.reply || due_on clock p.legs.entry)
 
@@ -71,7 +71,7 @@ abbrev pub shorter : List ℕ → ℕ → Party → ℕ
 shorter waits w p =
     cond (on_roll p.note.roll) (min w (unwrap_or (slice_get waits p.note.misses) w)) w
 
--- the smallest wait among the parties on the roll, tmax with none
+-- the smallest wait in force on the roll, tmax where it is empty
 abbrev pub shortest : List ℕ → ℕ → ℕ → List Party → ℕ
 shortest waits tmax n ps = fold (shorter waits) tmax (take n ps)
 
@@ -99,7 +99,7 @@ after_pass f g n s =
     let ps = s.table.parties in
     amid (walks f g 1 n s.log ps) (folds g 1 n s.log ps) s.table
 
--- a round ends: each party on the roll has its misses counted
+-- a round ends: misses are counted of everybody on the roll
 abbrev pub after_count : ℕ → State → State
 after_count n s =
     amid (walks (λ _ (u : ℕ) p. missed p) (λ _ (u : ℕ) _. u) 1 n 0 s.table.parties) s.log s.table
@@ -108,7 +108,7 @@ after_count n s =
 abbrev pub send_log : ℕ → List Happening → Party → List Happening
 send_log clock log p = cond (on_roll p.note.roll) (with_record clock 0 Sent log) log
 
--- each party on the roll, rising, gets a beat on leg 1
+-- a beat goes out on leg 1 to everybody on the roll, by rising number
 abbrev pub after_sending : ℕ → ℕ → State → State
 after_sending last n s =
     after_pass (λ _ log p. sends last (length log) p) (λ _ log p. send_log s.table.clock log p) n s
