@@ -11,13 +11,15 @@ PROGRAMS = compose runfile walkthrough
 .PHONY: demo build play test clean
 
 demo:
-	@bash tools/demo.sh $(FILE)
+	@bash tools/demo.sh $(if $(FILE),'$(FILE)')
 
 build:
 	@bash tools/build.sh $(PROGRAMS)
 
-play: target/bin/compose target/bin/runfile
-	@python3 tools/play.py $(SCHEDULE)
+play:
+	@test -n '$(SCHEDULE)' || { echo 'usage: make play SCHEDULE=my.txt' >&2; exit 2; }
+	@$(MAKE) -s --no-print-directory $(addprefix target/bin/,$(PROGRAMS))
+	@python3 tools/play.py '$(SCHEDULE)'
 
 target/bin/%:
 	@bash tools/build.sh $*
