@@ -32,13 +32,13 @@ pub record KeepsTheRules (rules : Rules) (steps : List Step) (s : State) : Type 
   pub by_the_rules : Rehearsed rules (opening rules) steps s
   -- the clock tells how many ticks were granted
   pub clock_counts_the_granted_ticks : s.table.clock ≡ granted_ticks steps
-  -- a party on the roll ended at tick c and the clock is past c + D: the root has ended
+  -- once a party on the roll has been ended for longer than D, the root has ended
   pub root_ends_within_D_of_a_party_on_the_roll : RootFollows rules s
-  -- the root ended at tick c and the clock is past c + D + trip: each party on the roll has ended
+  -- once the root has been ended for longer than D and a trip, each party on the roll has ended
   pub parties_on_the_roll_end_within_D_and_a_trip_of_the_root : PartiesFollow rules s
-  -- a party stopped that was in just before: the root has ended, and no later than that party
+  -- a party that was in stops only with the root or after it
   pub party_that_was_in_stops_no_earlier_than_the_root : StopsForCause rules s
-  -- each loss and crash was refused: nobody has stopped
+  -- nobody stops where no loss and no crash was granted
   pub nobody_stops_unharmed :
       unharmed (map call_of steps) (map answer_of steps) ≡ true → NobodyStopped rules s
   -- each beat on a leg, each arrival and each loss goes back to its sending
