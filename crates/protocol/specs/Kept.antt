@@ -309,7 +309,7 @@ pub record Kept (m : Terms) (kind : GroupKind) (q : Bool) (c : ℕ) (r : Root) (
   pub cause : Cause p.own.standing r
   -- joining beats go out every tmin ticks from the joining on
   pub beckoned : Beckoned m.tmin m.trip c p.own.standing p.own.since p.legs.entry
-  -- where no loss and no crash was granted, nobody has crashed or stopped
+  -- nobody crashes or stops where no loss and no crash was granted
   pub spared : Clean q r p.note p.own p.legs m.trip m.patience a l
 
 -- the numbers of a pace in a group of such a kind

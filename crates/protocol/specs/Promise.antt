@@ -32,13 +32,13 @@ pub record KeepsTheRules (rules : Rules) (steps : List Step) (s : State) : Type 
   pub by_the_rules : Rehearsed rules (opening rules) steps s
   -- the clock tells how many ticks were granted
   pub clock_counts_the_granted_ticks : s.table.clock ≡ granted_ticks steps
-  -- once the clock is beyond c + D, c being the end of a party on the roll, the root no longer runs
+  -- once a party on the roll has been ended for longer than D, the root has ended
   pub root_ends_within_D_of_a_party_on_the_roll : RootFollows rules s
-  -- once it is beyond r + D + trip, r being the end of the root, nobody on the roll is live
+  -- once the root has been ended for longer than D and a trip, each party on the roll has ended
   pub parties_on_the_roll_end_within_D_and_a_trip_of_the_root : PartiesFollow rules s
-  -- a party that stops while it is in does so no earlier than the root's end
+  -- a party that was in stops only with the root or after it
   pub party_that_was_in_stops_no_earlier_than_the_root : StopsForCause rules s
-  -- where no loss and no crash was granted, nobody has stopped
+  -- nobody stops where no loss and no crash was granted
   pub nobody_stops_unharmed :
       unharmed (map call_of steps) (map answer_of steps) ≡ true → NobodyStopped rules s
   -- each beat on a leg, each arrival and each loss goes back to its sending

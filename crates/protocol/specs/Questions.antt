@@ -21,7 +21,7 @@ tick_of h = h.tick
 abbrev pub none_later : ℕ → List Happening → Bool
 none_later clock log = nat_le (last_time tick_of log) clock
 
--- the log has just the length that the group counted, and no record after the clock
+-- the records of the log are as many as the group wrote, and the clock has come to each
 abbrev pub is_own_log : State → Bool
 is_own_log s = length s.log == s.table.logged && none_later s.table.clock s.log
 
