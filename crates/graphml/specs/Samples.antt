@@ -13,7 +13,8 @@ file_sample =
     ++ codes "<node id=\"p1\"><graph id=\"p1:\" edgedefault=\"directed\"><node id=\"h1\"><data key=\"k\">sent</data></node></graph></node>"
     ++ codes "<node id=\"p2\"><graph id=\"p2:\" edgedefault=\"directed\"><node id=\"h2\"><data key=\"t\">1</data><data key=\"k\">sent</data><data key=\"k\">lost</data></node></graph></node>"
     ++ codes "<node id=\"p3\"><graph id=\"p2:\" edgedefault=\"directed\"/></node><node id=\"p4\"><node id=\"h3\"/></node>"
-    -- an edge within a party's graph, an edge, an edge from nowhere, and one from a place that no number is written as
+    -- an edge within a party's graph, an edge, an edge from nowhere, and one from a place that no
+    -- number is written as
     ++ codes "<node id=\"p12\"><graph id=\"p12:\" edgedefault=\"directed\"><edge source=\"h0\" target=\"h4\"/><node id=\"h5\"><data key=\"t\">10</data><data key=\"k\">crashed</data></node></graph></node>"
     ++ codes "<edge target=\"h7\" source=\"h0\"></edge><edge source=\"h\" target=\"h1\"/><edge source=\"h01\" target=\"h1\"/></graph></graphml>"
 

@@ -41,7 +41,8 @@ pub record Setting : Type 0 where
   pub before : State
 
 pub data Given : Type 0 where
-  -- questions on a set-up: on two limits, on waits between them, on a number of waits, on a number of parties
+  -- questions on a set-up: on two limits, on waits between them, on a number of waits, on a number
+  -- of parties
   limits : ℕ → ℕ → Given
   waits : ℕ → ℕ → List ℕ → Given
   cap : ℕ → Given
@@ -72,7 +73,8 @@ pub record Outcome : Type 0 where
   -- the number of each answer, 0 for a yes, and the place of what was refused
   pub answers : List ℕ
   pub place : ℕ
-  -- the clock, how the root and the parties stand, what the root notes of each, the tick of each sending, how many records there are
+  -- the clock, how the root and the parties stand, what the root notes of each, the tick of each
+  -- sending, how many records there are
   pub clock : ℕ
   pub root : Root
   pub parties : List Standing

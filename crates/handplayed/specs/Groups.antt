@@ -99,20 +99,23 @@ tick_waits = ticks 3 ++ (Deliver 1 1 ∷ Tick ∷ Deliver 1 2 ∷ Tick ∷ [])
 abbrev pub joining_lost : List Call
 joining_lost = Join 1 ∷ Lose 1 3 ∷ Tick ∷ times_over 5 (Tick ∷ Tick ∷ Lose 1 3 ∷ []) ++ ticks 2
 
--- the party joins at 0, is enrolled by its first joining beat and hears the root at 5, where the root crashes
+-- the party joins at 0, is enrolled by its first joining beat and hears the root at 5, where the
+-- root crashes
 abbrev pub joiner_hears : List Call
 joiner_hears =
     Join 1 ∷ Deliver 1 3 ∷ ticks 3 ++ (Deliver 1 3 ∷ ticks 2)
     ++ (Deliver 1 1 ∷ Crash 0 ∷ Deliver 1 2 ∷ Deliver 1 3 ∷ ticks 13)
 
--- the party joins at 0, hears the root at 6 and leaves, and replies at 9 that it parts; at 2 and twice at 6 the tick has to wait
+-- the party joins at 0, hears the root at 6 and leaves, and replies at 9 that it parts; at 2 and
+-- twice at 6 the tick has to wait
 abbrev pub leaves : List Call
 leaves =
     Join 1 ∷ ticks 3 ++ (Deliver 1 3 ∷ ticks 2) ++ (Lose 1 3 ∷ ticks 2)
     ++ (Deliver 1 1 ∷ Tick ∷ Deliver 1 2 ∷ Tick ∷ Leave 1 ∷ Deliver 1 3 ∷ ticks 3)
     ++ (Deliver 1 1 ∷ Deliver 1 2 ∷ ticks 13)
 
--- the party joins at 1 and calls again at 3; it hears at 4, leaves, and parts at 5, where its joining beat of 3 arrives after the parting one
+-- the party joins at 1 and calls again at 3; it hears at 4, leaves, and parts at 5, where its
+-- joining beat of 3 arrives after the parting one
 abbrev pub late_call : List Call
 late_call =
     Tick ∷ Join 1 ∷ Deliver 1 3 ∷ ticks 3 ++ (Deliver 1 1 ∷ Deliver 1 2 ∷ Leave 1 ∷ Tick ∷ Deliver 1 1 ∷ Deliver 1 2 ∷ Deliver 1 3 ∷ ticks 7)

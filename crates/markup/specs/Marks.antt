@@ -5,8 +5,8 @@ pub record Attribute : Type 0 where
   pub key : List ℕ
   pub value : List ℕ
 
--- a declaration, a start tag, an end tag, the tag of an empty element, the text between two tags, or
--- what is none of these
+-- a declaration, a start tag, an end tag, the tag of an empty element, the text between two tags,
+-- or what is none of these
 pub data Mark : Type 0 where
   declares : Mark
   starts : List ℕ → List Attribute → Mark
@@ -39,8 +39,8 @@ class c =
     (if c == 32 then blank else
     (if c == 10 then blank else other))))))))
 
--- where the scanner is, with what it has read of the mark at hand: the text, the name, the attributes,
--- the key, the value
+-- where the scanner is, with what it has read of the mark at hand: the text, the name, the
+-- attributes, the key, the value
 pub data Scanner : Type 0 where
   in_text : List ℕ → Scanner
   after_less : Scanner

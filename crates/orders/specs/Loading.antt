@@ -71,8 +71,8 @@ abbrev pub InOrder : ℕ → List Order → Type 0
 InOrder t [] = Unit {0}
 InOrder t (o ∷ os) = OrderFits o × (t ≤ o.tick) × InOrder o.tick os
 
--- a file that was written from a start and orders gives just those, where the list has room for them
--- and their ticks go on from its last
+-- a file that was written from a start and orders gives just those, where the list has room for
+-- them and their ticks go on from its last
 abbrev pub WrittenFilesLoad : Type 0
 WrittenFilesLoad =
     (s : Start) (os xs ys : List Order)

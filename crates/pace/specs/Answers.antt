@@ -10,7 +10,8 @@ pace_refusal_number BadFirst = 3
 pace_refusal_number BadWait = 4
 
 -- n is the number of the first question answered no, or 0 where all are answered yes; no refusal
--- has number 0. A granted call leaves what `Granted` says of its result, a refused one what `Kept` says.
+-- has number 0. A granted call leaves what `Granted` says of its result, a refused one what `Kept`
+-- says.
 abbrev pub Answered : {T : Type 0} → ℕ → Result T Refusal → (T → Type 0) → Type 0 → Type 0
 Answered n (Ok x) Granted Kept = (n ≡ 0) × Granted x
 Answered n (Err e) Granted Kept = (n ≡ pace_refusal_number e) × Kept

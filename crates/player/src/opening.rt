@@ -9,8 +9,8 @@ use pace::Pace;
 use pace::cap::Cap;
 use protocol::plan::Plan;
 
-/// The pace under the cap of a start record, and the record's plan: what a group or a run of the file
-/// is opened with. The cap is asked about before the plan.
+/// The pace under the cap of a start record, and the record's plan: what a group or a run of the
+/// file is opened with. The cap is asked about before the plan.
 pub fn set_up<P: Pace + Drop>(pace: P, start: Start) -> Result<(Cap<P>, Plan), FileFault>
     ensures granted { IsOk result ↔ cap_and_plan_no start ≡ 0 }
     ensures refused { IfErr result (TellsOfNoRecord (cap_and_plan_no start)) }

@@ -1,6 +1,6 @@
 -- The invariant of runs: what holds of each party and of the round between the calls.
--- Only the proofs of the laws need it. In what follows c is the clock, r the root, a and l the start
--- and the length of the round, h the tick when the party last heard.
+-- Only the proofs of the laws need it. In what follows c is the clock, r the root, a and l the
+-- start and the length of the round, h the tick when the party last heard.
 use Rattle.std.specs.Prelude.{◌≡◌, ℕ, suc, ◌+◌, ◌-◌, ◌%◌, ◌<◌, ◌≤◌, Bool, true, false, length, drop, Some, None, sum, Option, slice_index, slice_index_or}
 use Rattle.pace.specs.Meaning.{Meaning}
 use Rattle.protocol.specs.Rules.{trip, patience}
@@ -260,7 +260,8 @@ Trusted On n o g trip d a l =
     × Ahead g.out (a + trip) l (o.since + d)
 Trusted Struck n o g trip d a l = Unit {0}
 
--- where no loss and no crash was granted (the Bool), the root runs and nobody has crashed or stopped
+-- where no loss and no crash was granted (the Bool), the root runs and nobody has crashed or
+-- stopped
 abbrev pub Clean : Bool → Root → Note → Own → Legs → ℕ → ℕ → ℕ → ℕ → Type 0
 Clean false r n o g trip d a l = Unit {0}
 Clean true r n o g trip d a l = Up r × Well o.standing × Trusted n.roll n o g trip d a l

@@ -1,8 +1,8 @@
 // The calls of a group as values, so that a run can be written down.
 use crate::refusal::Refusal;
 
-/// A call by its value: a party by its number (0 is the root), a leg by its own (1 to 3). Any number
-/// may be asked for; the call's questions refuse a wrong one.
+/// A call by its value: a party by its number (0 is the root), a leg by its own (1 to 3). Any
+/// number may be asked for; the call's questions refuse a wrong one.
 #[derive(Clone, Copy, Debug, PartialEq, Eq)]
 pub enum Call {
     Tick,

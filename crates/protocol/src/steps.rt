@@ -24,8 +24,8 @@ impl Beat {
 }
 
 impl Party {
-    // A beat of the root arrives at the party, which replies to it while it lives; answers whether it
-    // does. The reply keeps the beat's last tick, so that a round trip fits into one trip time.
+    // A beat of the root arrives at the party, which replies to it while it lives; answers whether
+    // it does. The reply keeps the beat's last tick, so that a round trip fits into one trip time.
     fn hear(&mut self, clock: u32, beat: Beat, place: usize) -> bool
         ensures answer { result ≡ live self.old.own.standing }
         ensures after { self.new ≡ hears_as self.old.own.standing clock place beat.last self.old }
@@ -79,8 +79,8 @@ impl Party {
         }
     }
 
-    /// The end of a round as the root notes it; the count of misses stays at the largest number, which
-    /// no run comes near.
+    /// The end of a round as the root notes it; the count of misses stays at the largest number,
+    /// which no run comes near.
     pub fn miss(&mut self)
         ensures { self.new ≡ missed_to 4294967295 self.old }
     {
@@ -93,8 +93,8 @@ impl Party {
         }
     }
 
-    /// The root's beat goes out, where the party is on the roll; answers whether it did. A new round
-    /// begins unheard.
+    /// The root's beat goes out, where the party is on the roll; answers whether it did. A new
+    /// round begins unheard.
     pub fn send(&mut self, last: u32, place: usize) -> bool
         ensures answer { result ≡ on_roll self.old.note.roll }
         ensures after { self.new ≡ sends last place self.old }
@@ -116,9 +116,9 @@ impl Party {
         self.note.roll == Roll::On && self.note.misses == rounds
     }
 
-    /// The party's timer; answers what it tells, if anything. Patience comes first: a party that ends
-    /// sends nothing. `last` is the last tick of a joining beat that goes out, `place` the log place of
-    /// its sending.
+    /// The party's timer; answers what it tells, if anything. Patience comes first: a party that
+    /// ends sends nothing. `last` is the last tick of a joining beat that goes out, `place` the log
+    /// place of its sending.
     pub fn time(
         &mut self,
         clock: u32,
@@ -180,8 +180,8 @@ impl Party {
         }
     }
 
-    /// The beat comes off its leg: leg 1 brings it to the party, the other two to the root, which does
-    /// nothing more once it is down. `place` is the log place of the party's reply.
+    /// The beat comes off its leg: leg 1 brings it to the party, the other two to the root, which
+    /// does nothing more once it is down. `place` is the log place of the party's reply.
     pub fn arrive(&mut self, clock: u32, root: Root, leg: u8, beat: Beat, place: usize)
         ensures { self.new ≡ arrives clock root leg beat place self.old }
     {

@@ -46,8 +46,8 @@ pub struct Table {
     pub length: u32,
     /// How many records the group has written into its log.
     pub logged: usize,
-    /// Party i stands at place i - 1; a plan of fewer parties leaves the others as they are. Fixed in
-    /// size, so that opening a group never refuses.
+    /// Party i stands at place i - 1; a plan of fewer parties leaves the others as they are. Fixed
+    /// in size, so that opening a group never refuses.
     pub parties: [Party; 32],
 }
 

@@ -5,8 +5,8 @@ use Rattle.slots.specs.declared.refusal.Refusal.TheVariants.{NoSlot as SlotsTake
 use Rattle.schedule.specs.declared.complaint.Cause.{Cause}
 use Rattle.schedule.specs.declared.complaint.Cause.TheVariants.{MissingWord, UnknownWord, NotANumber, NumberTooLarge, WordTooMany, EarlierTick, NoSlot, NoStart, NoRoom}
 
--- the question that is answered no: 12, is there room; 14, is the tick no smaller than the one before;
--- 15, is the record whole; 16, are its words and numbers known values
+-- the question that is answered no: 12, is there room; 14, is the tick no smaller than the one
+-- before; 15, is the record whole; 16, are its words and numbers known values
 abbrev pub complaint_number : Cause → ℕ
 complaint_number MissingWord = 15
 complaint_number WordTooMany = 15

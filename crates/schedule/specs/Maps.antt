@@ -13,7 +13,8 @@ has_words (w ∷ ws) = true
 -- the numbers of the lines with words, where line n is the last one before these
 unfoldable pub worded : ℕ → List (List ℕ) → List ℕ
 worded n [] = []
-worded n (l ∷ ls) = if has_words (line_words l) then ((n + 1) ∷ worded (n + 1) ls) else worded (n + 1) ls
+worded n (l ∷ ls) =
+    if has_words (line_words l) then ((n + 1) ∷ worded (n + 1) ls) else worded (n + 1) ls
 
 -- of what is left of a text behind line n
 abbrev pub all_lines_behind : ℕ → List ℕ → List ℕ
@@ -30,4 +31,5 @@ words_at text m = line_words (slice_index_or (lines_in text) (m - 1) [])
 abbrev pub MapsOrders : Type 0
 MapsOrders =
     (text : List ℕ) (slots : List Order) (s : Start) → (reading_of text slots).answer ≡ Ok s
-    → map (λ m. order_in (words_at text m)) (drop 1 (record_lines text)) ≡ map (λ o. Ok (Some o)) (reading_of text slots).items
+    → map (λ m. order_in (words_at text m)) (drop 1 (record_lines text))
+    ≡ map (λ o. Ok (Some o)) (reading_of text slots).items

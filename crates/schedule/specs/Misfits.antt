@@ -33,7 +33,8 @@ told_or w p more None = more
 
 unfoldable pub first_misfit : List Place → List (List ℕ) → Option Told
 first_misfit [] ws = None
-first_misfit (p ∷ ps) ws = told_or (first_word ws) p (first_misfit ps (drop 1 ws)) (fault p (first_word ws))
+first_misfit (p ∷ ps) ws =
+    told_or (first_word ws) p (first_misfit ps (drop 1 ws)) (fault p (first_word ws))
 
 -- on a line of these words, once a start was read or before
 abbrev pub line_misfit : Bool → List (List ℕ) → Option Told
@@ -44,7 +45,8 @@ line_misfit false ws = first_misfit start_places ws
 unfoldable pub misfit_at : ℕ → Bool → ℕ → List (List ℕ) → Option Told
 misfit_at m started n [] = None
 misfit_at m started n (l ∷ ls) =
-    if n + 1 == m then line_misfit started (line_words l) else misfit_at m (started || has_words (line_words l)) (n + 1) ls
+    if n + 1 == m then line_misfit started (line_words l)
+    else misfit_at m (started || has_words (line_words l)) (n + 1) ls
 
 abbrev pub cause_told : Option Told → Option Cause
 cause_told = option_map (λ m. m.cause)
@@ -71,5 +73,6 @@ is_about_word NoRoom = false
 -- the complaint about a word of a text is that of the misfit on the complaint's line
 abbrev pub ComplaintsExplained : Type 0
 ComplaintsExplained =
-    (text : List ℕ) (slots : List Order) (e : Cause) → (reading_of text slots).answer ≡ Err e → is_about_word e ≡ true
+    (text : List ℕ) (slots : List Order) (e : Cause) →
+    (reading_of text slots).answer ≡ Err e → is_about_word e ≡ true
     → cause_told (misfit_at (reading_of text slots).line false 0 (lines_in text)) ≡ Some e

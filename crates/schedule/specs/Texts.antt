@@ -11,8 +11,8 @@ use Rattle.schedule.specs.Causes.{refusal_cause}
 use Rattle.schedule.specs.Cuts.{lines_in, line_words}
 use Rattle.schedule.specs.Records.{start_in, order_in}
 
--- the start or a complaint's cause, the line at which the reading ended, the orders up to there, and
--- what the slots past them hold
+-- the start or a complaint's cause, the line at which the reading ended, the orders up to there,
+-- and what the slots past them hold
 pub record Reading : Type 0 where
   pub answer : Result Start Cause
   pub line : ℕ

@@ -17,7 +17,8 @@ pub struct RecordLines<'a> {
 impl<'a> RecordLines<'a> {
     /// Of the whole text; lines are counted from 1.
     pub fn new(text: &'a [u8]) -> RecordLines<'a>
-        ensures lines { all_lines_behind result.lines.number result.lines.rest.now ≡ record_lines text.now }
+        ensures lines { all_lines_behind result.lines.number result.lines.rest.now
+            ≡ record_lines text.now }
         ensures orders { MapsOrders }
     {
         RecordLines {
@@ -29,7 +30,8 @@ impl<'a> RecordLines<'a> {
 impl<'a> Iterator for RecordLines<'a> {
     type Item = usize;
 
-    ghost next_gives = { YieldsFirst (λ records. all_lines_behind records.lines.number records.lines.rest.now) };
+    ghost next_gives = { YieldsFirst
+        (λ records. all_lines_behind records.lines.number records.lines.rest.now) };
 
     ghost remaining = { item_count (λ records. all_lines_behind records.lines.number records.lines.rest.now) };
 

@@ -43,8 +43,8 @@ module _ {X : Type 0} where
     pub lent : l'.slots.ghost_name ≡ l.slots.ghost_name
     pub long : capacity l' ≡ capacity l
 
-  -- l' grew out of l: the same slots, no record less, and every slot past the last record of l' holds
-  -- what it held
+  -- l' grew out of l: the same slots, no record less, and every slot past the last record of l'
+  -- holds what it held
   pub record Extends (l l' : SlotList X) : Type 0 where
     pub lent : l'.slots.ghost_name ≡ l.slots.ghost_name
     pub long : capacity l' ≡ capacity l

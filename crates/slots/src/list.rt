@@ -97,8 +97,8 @@ impl<'a, T: Timed + Copy> SlotList<'a, T> {
         Ok(())
     }
 
-    /// The first place with a tick no earlier than `tick`. A scan from the front: the ticks may stand
-    /// in any order.
+    /// The first place with a tick no earlier than `tick`. A scan from the front: the ticks may
+    /// stand in any order.
     pub fn first_at_or_after(&self, tick: u32) -> Option<usize>
         ensures place { result ≡ first_place T.Timed.time tick (items self.now) }
         ensures first { First T.Timed.time tick (items self.now) result }

@@ -12,7 +12,8 @@ use slots::SlotList;
 use std::io;
 use std::io::Write;
 
-// Tells of a takeover timer of so many ticks, started at tick c, that is up before the end that it waits for.
+// Tells of a takeover timer of so many ticks, started at tick c, that is up before the end that it
+// waits for.
 fn tell_timer(rt: &impl Print, timer: &str, ticks: u32, c: u32, end: u32) -> io::Result<()> {
     let up = c as u64 + ticks as u64;
     if up < end as u64 {

@@ -1,6 +1,6 @@
 // The task that is played where the demo is asked for: when may a second controller take over?
-// A closed group of 2 parties, halving pace, tmin 1, tmax 10. Every beat and reply arrives within its time; party 1 crashes at
-// tick 12. One record of the order file to a line.
+// A closed group of 2 parties, halving pace, tmin 1, tmax 10. Every beat and reply arrives within
+// its time; party 1 crashes at tick 12. One record of the order file to a line.
 pub const TASK: [u8; 176] = [
     0x48, 0x47, 0x01, 0x02, 0x00, 0x00, 0x00, 0x01, 0x00, 0x00, 0x00, 0x0A, 0x01, 0x40, // closed 2 halving 1 10 cap 64
     0x48, 0x4F, 0x01, 0x01, 0x01, 0x00, 0x00, 0x00, 0x0B, // 11 deliver 1 1
