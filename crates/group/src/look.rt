@@ -11,7 +11,7 @@ use crate::group::Group;
 use crate::questions::is_own_log;
 use pace::Pace;
 use protocol::happening::Happening;
-use protocol::party::{Beat, Party};
+use protocol::party::{Beat, Leg, Party};
 use protocol::plan::Plan;
 use protocol::table::Root;
 use slots::SlotList;
@@ -74,7 +74,7 @@ impl<P: Pace> Group<P> {
     pub fn beat(&self, party: u8, leg: u8) -> Option<Beat>
         ensures { result ≡ seen_beat leg (seen_party self.now.plan self.now.table party) }
     {
-        self.party(party)?.on_leg(leg)
+        self.party(party)?.on_leg(Leg::numbered(leg)?)
     }
 
     /// D: the ticks of silence after which a party ends.

@@ -5,6 +5,7 @@ pub mod Answers
 pub mod Plans
 pub mod Rules
 pub mod Walk
+pub mod Legs
 pub mod Party
 pub mod State
 pub mod Questions

@@ -1,5 +1,6 @@
 // One party of a group, as itself and as the root notes it.
-ghost use Rattle.std.specs.Prelude.{Some};
+ghost use Rattle.std.specs.Prelude.{◌≡◌, Some};
+ghost use Rattle.protocol.specs.Legs.{leg_numbered};
 ghost use Rattle.protocol.specs.Texts.{stage_text, ending_text};
 
 use std::fmt;
@@ -58,6 +59,31 @@ pub enum Roll {
     Off,
     On,
     Struck,
+}
+
+/// The way of a beat, by its number.
+#[derive(Clone, Copy, Debug, PartialEq, Eq)]
+pub enum Leg {
+    /// From the root to a party.
+    Out = 1,
+    /// Back to the root, with the party's reply.
+    Reply = 2,
+    /// To the root, by which a party asks to be let in.
+    Entry = 3,
+}
+
+impl Leg {
+    /// The leg of that number; there are three.
+    pub fn numbered(number: u8) -> Option<Leg>
+        ensures { result ≡ leg_numbered number }
+    {
+        match number {
+            1 => Some(Leg::Out),
+            2 => Some(Leg::Reply),
+            3 => Some(Leg::Entry),
+            _ => None,
+        }
+    }
 }
 
 /// A beat on a leg.

@@ -1,5 +1,6 @@
 // The steps of one party, each in place: the calls of a group are made of them.
 ghost use Rattle.std.specs.Prelude.{◌≡◌, ◌<◌};
+ghost use Rattle.protocol.specs.Legs.{leg_number};
 ghost use Rattle.protocol.specs.Party.{beat, live, on_roll, on_leg, off_leg};
 ghost use Rattle.protocol.specs.calls.Deliver.{hears_as, answers, arrives};
 ghost use Rattle.protocol.specs.calls.Tick.{missed_to, sends, due, due_on, missed_all, times, timer_word};
@@ -156,42 +157,40 @@ impl Party {
         matches!(self.own.standing, Standing::Live(_))
     }
 
-    /// The beat on a leg, by the leg's number; none on any other.
-    pub fn on_leg(&self, leg: u8) -> Option<Beat>
-        ensures { result ≡ on_leg leg self.now }
+    /// The beat on a leg.
+    pub fn on_leg(&self, leg: Leg) -> Option<Beat>
+        ensures { result ≡ on_leg (leg_number leg) self.now }
     {
         match leg {
-            1 => self.legs.out,
-            2 => self.legs.reply,
-            3 => self.legs.entry,
-            _ => None,
+            Leg::Out => self.legs.out,
+            Leg::Reply => self.legs.reply,
+            Leg::Entry => self.legs.entry,
         }
     }
 
-    /// Takes the beat off a leg; on any other number nothing is taken off.
-    pub fn take_off(&mut self, leg: u8)
-        ensures { self.new ≡ off_leg leg self.old }
+    /// Takes the beat off a leg.
+    pub fn take_off(&mut self, leg: Leg)
+        ensures { self.new ≡ off_leg (leg_number leg) self.old }
     {
         match leg {
-            1 => self.legs.out = None,
-            2 => self.legs.reply = None,
-            3 => self.legs.entry = None,
-            _ => {}
+            Leg::Out => self.legs.out = None,
+            Leg::Reply => self.legs.reply = None,
+            Leg::Entry => self.legs.entry = None,
         }
     }
 
     /// The beat comes off its leg: leg 1 brings it to the party, the other two to the root, which
     /// does nothing more once it is down. `place` is the log place of the party's reply.
-    pub fn arrive(&mut self, clock: u32, root: Root, leg: u8, beat: Beat, place: usize)
-        ensures { self.new ≡ arrives clock root leg beat place self.old }
+    pub fn arrive(&mut self, clock: u32, root: Root, leg: Leg, beat: Beat, place: usize)
+        ensures { self.new ≡ arrives clock root (leg_number leg) beat place self.old }
     {
         self.take_off(leg);
         match (leg, root) {
-            (1, _) => {
+            (Leg::Out, _) => {
                 let _ = self.hear(clock, beat, place);
             }
-            (2 | 3, Root::Running) => self.answer(beat.parting),
-            _ => {}
+            (Leg::Reply | Leg::Entry, Root::Running) => self.answer(beat.parting),
+            (Leg::Reply | Leg::Entry, Root::Down(..)) => {}
         }
     }
 

@@ -2,6 +2,7 @@
 ghost use Rattle.std.specs.Prelude.{◌≡◌, Some};
 ghost use Rattle.slots.specs.Slots.{items, Extends};
 ghost use Rattle.protocol.specs.calls.Deliver.{arrival_log, after_arrival};
+ghost use Rattle.protocol.specs.Legs.{leg_number};
 ghost use Rattle.protocol.specs.Views.{state_of, Ready};
 ghost use Rattle.protocol.specs.declared.call.Call.TheVariants.{Deliver};
 ghost use Rattle.group.specs.Does.{Does};
@@ -13,7 +14,7 @@ use crate::questions::ask_beat;
 use pace::Pace;
 use protocol::happening::{Happening, HappeningKind};
 use protocol::member::Member;
-use protocol::party::{Beat, Party, Roll};
+use protocol::party::{Beat, Leg, Party, Roll};
 use protocol::refusal::Refusal;
 use protocol::table::{Root, Table};
 use slots::SlotList;
@@ -30,7 +31,7 @@ impl<P: Pace> Group<P> {
     ) -> Result<(), Refusal>
         ensures { Does (Deliver party leg) self.old self.new log.old log.new result }
     {
-        let (member, beat) = ask_beat(&self.plan, &self.table, log, party, leg)?;
+        let (member, leg, beat) = ask_beat(&self.plan, &self.table, log, party, leg)?;
         self.quiet_until = 0;
         do_deliver(&mut self.table, log, member, leg, beat);
         Ok(())
@@ -41,13 +42,13 @@ fn do_deliver(
     table: &mut Table,
     log: &mut SlotList<'_, Happening>,
     member: Member,
-    leg: u8,
+    leg: Leg,
     beat: Beat,
 )
     requires { Ready log.old table.old.clock 2 }
     ensures extends { Extends log.old log.new }
     ensures after { state_of table.new log.new
-        ≡ after_arrival (Some beat) member.number leg (state_of table.old log.old) }
+        ≡ after_arrival (Some beat) member.number (leg_number leg) (state_of table.old log.old) }
 {
     let clock = table.clock;
     let root = table.root;
@@ -65,16 +66,19 @@ fn tell_arrival(
     log: &mut SlotList<'_, Happening>,
     tick: u32,
     root: Root,
-    leg: u8,
+    leg: Leg,
     beat: Beat,
     owner: u8,
     party: Party,
 )
     requires { Ready log.old tick 2 }
     ensures extends { Extends log.old log.new }
-    ensures items { items log.new ≡ arrival_log tick root leg beat owner party (items log.old) }
+    ensures items { items log.new ≡ arrival_log tick root (leg_number leg) beat owner party (items log.old) }
 {
-    let receiver = if leg == 1 { owner } else { 0 };
+    let receiver = match leg {
+        Leg::Out => owner,
+        Leg::Reply | Leg::Entry => 0,
+    };
     log_record(
         log,
         Happening {
@@ -90,10 +94,10 @@ fn tell_arrival(
 }
 
 // What is told after an arrival, if anything.
-fn follows_arrival(root: Root, leg: u8, beat: Beat, party: Party) -> Option<HappeningKind>
-    ensures { result ≡ followed root leg beat party }
+fn follows_arrival(root: Root, leg: Leg, beat: Beat, party: Party) -> Option<HappeningKind>
+    ensures { result ≡ followed root (leg_number leg) beat party }
 {
-    if leg == 1 {
+    if leg == Leg::Out {
         return party.is_live().then_some(HappeningKind::Sent);
     }
     match (root, party.note.roll, beat.parting) {

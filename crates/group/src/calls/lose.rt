@@ -2,6 +2,7 @@
 ghost use Rattle.std.specs.Prelude.{◌≡◌, Some};
 ghost use Rattle.slots.specs.Slots.{Extends};
 ghost use Rattle.protocol.specs.calls.Lose.{after_loss_of};
+ghost use Rattle.protocol.specs.Legs.{leg_number};
 ghost use Rattle.protocol.specs.Views.{state_of, Ready};
 ghost use Rattle.protocol.specs.declared.call.Call.TheVariants.{Lose};
 ghost use Rattle.group.specs.Does.{Does};
@@ -12,7 +13,7 @@ use crate::questions::ask_beat;
 use pace::Pace;
 use protocol::happening::{Happening, HappeningKind};
 use protocol::member::Member;
-use protocol::party::Beat;
+use protocol::party::{Beat, Leg};
 use protocol::refusal::Refusal;
 use protocol::table::Table;
 use slots::SlotList;
@@ -29,7 +30,7 @@ impl<P: Pace> Group<P> {
     ) -> Result<(), Refusal>
         ensures { Does (Lose party leg) self.old self.new log.old log.new result }
     {
-        let (member, beat) = ask_beat(&self.plan, &self.table, log, party, leg)?;
+        let (member, leg, beat) = ask_beat(&self.plan, &self.table, log, party, leg)?;
         self.quiet_until = 0;
         do_lose(&mut self.table, log, member, leg, beat);
         Ok(())
@@ -40,15 +41,18 @@ fn do_lose(
     table: &mut Table,
     log: &mut SlotList<'_, Happening>,
     member: Member,
-    leg: u8,
+    leg: Leg,
     beat: Beat,
 )
     requires { Ready log.old table.old.clock 2 }
     ensures extends { Extends log.old log.new }
     ensures after { state_of table.new log.new
-        ≡ after_loss_of (Some beat) member.number leg (state_of table.old log.old) }
+        ≡ after_loss_of (Some beat) member.number (leg_number leg) (state_of table.old log.old) }
 {
-    let owner = if leg == 1 { 0 } else { member.number };
+    let owner = match leg {
+        Leg::Out => 0,
+        Leg::Reply | Leg::Entry => member.number,
+    };
     table.parties[member.index()].take_off(leg);
     log_record(
         log,
