@@ -102,8 +102,8 @@ pub record FileComesTo (file : List ℕ) (orders : Lent Order) (came : Outcome) 
   pub came_to : let read = loaded file [] orders.before in
       ReadingComesTo read.answer read.items came
 
--- a file with all that was lent for it, and what is printed; the lines come as 128 bytes, the rest
--- 0, with their length
+-- a file with all that was lent for it, and what is printed; the notices are its lines, filled up
+-- with zeros
 pub record FileRun (file : List ℕ) (orders : Lent Order) (log : Lent Happening) (out : Lent ℕ)
     (printed : Printed) : Type 0 where
   pub lines : List ℕ

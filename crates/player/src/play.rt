@@ -76,7 +76,7 @@ pub fn tick_to<P: Pace>(
     Ok(())
 }
 
-// Ticks until the clock is the order's tick, and then makes the order's call.
+// Brings the clock to the tick of the order, and then makes its call.
 fn obey<P: Pace>(
     group: &mut Group<P>,
     log: &mut SlotList<'_, Happening>,
