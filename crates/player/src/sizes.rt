@@ -1,5 +1,5 @@
-// How much of an order file the programs read, and how much they lend to play it. Each makes its own
-// buffers, since the library allocates nothing.
+// How much of an order file the programs read, and how much they lend to play it. Each makes its
+// own buffers, since the library allocates nothing.
 
 /// The most bytes of an order file that are read; what stands behind them is left.
 pub const INPUT_BYTES: u64 = 65_536;

@@ -15,8 +15,8 @@ use protocol::plan::Plan;
 use runs::making::make_all;
 use slots::SlotList;
 
-/// What a run came to: the group, how many of the slots hold its log, from the first on, and what the
-/// export answered.
+/// What a run came to: the group, how many of the slots hold its log, from the first on, and what
+/// the export answered.
 #[derive(Drop)]
 pub struct Rehearsal<P: Pace> {
     pub group: Group<P>,

@@ -1,6 +1,6 @@
 // For the benchmark: opens the group that the order file on standard input asks for, without its
-// cap, and closes every tick, one by one, up to the tick of the last order. The orders themselves are
-// not carried out.
+// cap, and closes every tick, one by one, up to the tick of the last order. The orders themselves
+// are not carried out.
 #![tactic(auto)]
 
 use orders::load::load;
