@@ -5,4 +5,4 @@ pub invariant_of-self : goal.invariant_of-self
 invariant_of-self g c =
     let r = c.args.self.now in
     let y = c.advance.new in
-    record { run = went_on c.args.until r.group y.self r.log y.log c.advance.result (g.met.P.Pace.lawful r.group.pace) c.advance.ensures r.run }
+    record { run = went_on _ r.group y.self r.log y.log c.advance.result (g.met.P.Pace.lawful r.group.pace) c.advance.ensures r.run }
