@@ -1,6 +1,6 @@
 -- The invariant of runs: what holds of each party and of the round between the calls.
--- Only the proofs of the laws need it. In what follows c is the clock, r the root, a and l the
--- start and the length of the round, h the tick when the party last heard.
+-- Only the proofs of the laws need it. In what follows c is the clock, r the root, a and l the start
+-- and the length of the round, h the tick when the party last heard, d its patience.
 use Rattle.std.specs.Prelude.{◌≡◌, ℕ, suc, ◌+◌, ◌-◌, ◌%◌, ◌<◌, ◌≤◌, Bool, true, false, length, drop, Some, None, sum, Option, slice_index, slice_index_or}
 use Rattle.pace.specs.Meaning.{Meaning}
 use Rattle.protocol.specs.Rules.{trip, patience}
