@@ -18,9 +18,13 @@ refusal_number ShortOutput = 17
 abbrev pub in_frame : Forest Tag → List ℕ
 in_frame f = opening run ++ render spelling f ++ closing run
 
--- what an output of cap bytes has room for beside the frame's 275 bytes
+-- the bytes of the file's first lines and its last ones, which each file has
+abbrev pub frame_size : ℕ
+frame_size = 275
+
+-- what an output of cap bytes has room for beside the frame
 abbrev pub part : List Happening → ℕ → ℕ → Forest Tag
-part log n cap = fitting_part spelling (cap - 275) (body log n)
+part log n cap = fitting_part spelling (cap - frame_size) (body log n)
 
 -- out, with its first bytes overwritten by text
 abbrev pub over : List ℕ → List ℕ → List ℕ
@@ -29,7 +33,7 @@ over text out = text ++ drop (length text) out
 -- what the output out holds afterwards
 abbrev pub run_bytes : List Happening → ℕ → List ℕ → List ℕ
 run_bytes log n out =
-    cond (nat_le 275 (length out)) (over (in_frame (part log n (length out))) out) out
+    cond (nat_le frame_size (length out)) (over (in_frame (part log n (length out))) out) out
 
 -- what is answered for a forest of which all was written, or not
 abbrev pub summary : Forest Tag → (whole : Bool) → Exported
@@ -43,6 +47,6 @@ summary f whole = record {
 -- the answer at an output of cap bytes
 abbrev pub run_answer : List Happening → ℕ → ℕ → Result Exported Refusal
 run_answer log n cap =
-    cond (nat_le 275 cap)
-    (Ok (summary (part log n cap) (all_fits spelling (cap - 275) (body log n))))
+    cond (nat_le frame_size cap)
+    (Ok (summary (part log n cap) (all_fits spelling (cap - frame_size) (body log n))))
     (Err ShortOutput)

@@ -13,7 +13,7 @@ use Rattle.graphml.specs.Body.{body}
 use Rattle.markup.specs.Closing.{Closes}
 use Rattle.graphml.specs.Reading.{edges_read, places_read}
 use Rattle.graphml.specs.Log.{ShowsTheLog, HasBothEnds, times, all_read}
-use Rattle.graphml.specs.Answer.{in_frame, run_answer, run_bytes}
+use Rattle.graphml.specs.Answer.{frame_size, in_frame, run_answer, run_bytes}
 use Rattle.graphml.specs.Lent.{Lent}
 use Rattle.markup.specs.Cut.{EndsAt}
 use Rattle.graphml.specs.Elements.{spelling}
@@ -43,7 +43,7 @@ pub record ShowsTheRun (rules : Rules) (steps : List Step) (s : State)
   -- a cut file has the first elements of all, and the next did not fit
   pub cut_at_the_first_that_does_not_fit :
       IfOk answer (λ x. x.whole ≡ false →
-      EndsAt spelling (length out.before - 275) (body s.log rules.plan.n))
+      EndsAt spelling (length out.before - frame_size) (body s.log rules.plan.n))
   -- read from its bytes alone, whole or cut, each element in it is closed, inner before outer
   pub closes : IfOk answer (λ x. Closes (take x.bytes out.after))
   -- and it shows the log: the first of its happenings and edges, or all of them

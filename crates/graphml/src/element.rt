@@ -3,6 +3,7 @@
 // under an open inner one. The output stands beside the tokens: were it in them, a caller would not
 // know what the lent bytes end as.
 ghost use Rattle.std.specs.Prelude.{◌≡◌, is_ok, if◌then◌else◌};
+ghost use Rattle.graphml.specs.Answer.{frame_size};
 ghost use Rattle.graphml.specs.Texts.{head, tail, node_line, node_end, graph_line, graph_end};
 ghost use Rattle.graphml.specs.Elements.{happened, edge};
 ghost use Rattle.graphml.specs.Writer.{
@@ -46,7 +47,7 @@ impl RunGraph {
     // The frame's first lines, with bytes set aside for its last ones.
     #[tactic(auto, unfolding(crate::specs::Texts::head))]
     pub(crate) fn open(out: &mut RunOutput) -> RunGraph
-        requires { Sound (writer out.old) 275 }
+        requires { Sound (writer out.old) frame_size }
         ensures after { writer out.new ≡ after_text (writer out.old) head }
         ensures sound { Sound (writer out.new) 20 }
     {

@@ -5,7 +5,7 @@ ghost use Rattle.protocol.specs.Views.{state_of};
 ghost use Rattle.graphml.specs.Body.{body};
 ghost use Rattle.markup.specs.Closing.{Closes};
 ghost use Rattle.graphml.specs.Log.{ShowsTheLog};
-ghost use Rattle.graphml.specs.Answer.{in_frame};
+ghost use Rattle.graphml.specs.Answer.{frame_size, in_frame};
 ghost use Rattle.graphml.specs.Export.{export_answer, export_bytes};
 ghost use Rattle.markup.specs.Cut.{EndsAt};
 ghost use Rattle.graphml.specs.Elements.{spelling};
@@ -34,7 +34,7 @@ pub fn export<P: Pace>(
     ensures whole { IfOk result (λ x. x.whole ≡ true →
         take x.bytes out.new ≡ in_frame (body (items log.now) group.now.plan.n)) }
     ensures cut { IfOk result (λ x. x.whole ≡ false →
-        EndsAt spelling (length out.old - 275) (body (items log.now) group.now.plan.n)) }
+        EndsAt spelling (length out.old - frame_size) (body (items log.now) group.now.plan.n)) }
     // what a reader sees who has the written bytes alone
     ensures closes { IfOk result (λ x. Closes (take x.bytes out.new)) }
     ensures shown { IfOk result (λ x.

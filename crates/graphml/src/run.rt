@@ -3,7 +3,7 @@ ghost use Rattle.std.specs.Prelude.{◌≡◌, ◌-◌, true, false, length, tak
 ghost use Rattle.graphml.specs.Body.{body};
 ghost use Rattle.markup.specs.Closing.{Closes};
 ghost use Rattle.graphml.specs.Log.{ShowsTheLog};
-ghost use Rattle.graphml.specs.Answer.{in_frame, run_bytes, run_answer};
+ghost use Rattle.graphml.specs.Answer.{frame_size, in_frame, run_bytes, run_answer};
 ghost use Rattle.markup.specs.Cut.{EndsAt};
 ghost use Rattle.graphml.specs.Elements.{spelling};
 
@@ -25,7 +25,7 @@ pub(crate) fn write_run(log: &[Happening], parties: u8, out: &mut [u8]) -> Resul
     ensures whole { IfOk result (λ x. x.whole ≡ true →
         take x.bytes out.new ≡ in_frame (body log.now parties)) }
     ensures cut { IfOk result (λ x. x.whole ≡ false →
-        EndsAt spelling (length out.old - 275) (body log.now parties)) }
+        EndsAt spelling (length out.old - frame_size) (body log.now parties)) }
     ensures closes { IfOk result (λ x. Closes (take x.bytes out.new)) }
     ensures shown { IfOk result (λ x. ShowsTheLog parties log.now x (take x.bytes out.new)) }
 {
