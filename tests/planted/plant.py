@@ -82,8 +82,7 @@ def refuser(status, said, crate):
         error = re.search(r"error(\[[\w-]+\])?[^\n]*", said)
         return "compiler: " + (error.group(0)[:90] if error else f"status {status}")
     functions = re.findall(rf"^fn {crate}::(\S+): (?:no proof|not proved)", said, re.M)
-    functions.sort(key=lambda name: not name.startswith("laws::"))
-    lemmas = re.findall(r"/proofs/(\w+)\.antt:\d+:\d+: error: `([^`]+)`", said)
+    lemmas = re.findall(r"/proofs/([\w/]+)\.antt:\d+:\d+: error: `([^`]+)`", said)
     first = [f"lemma {name} of {file}" for file, name in lemmas[:1]]
     error = re.search(r"^.*(?:error: |it is not proved|found no proof).*", said, re.M)
     cause = "names" if error and re.search(r"has no (?:field )?`", error.group(0)) else "proof"
