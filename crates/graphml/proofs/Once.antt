@@ -8,48 +8,48 @@ use Rattle.protocol.specs.declared.happening.Happening.{Happening}
 use Rattle.protocol.specs.Beats.{Edge, edge as arc, edges, happening_at, is_arrival, Linked}
 use Rattle.graphml.specs.Reading.{Entry, Item, happened, joined, place_of, places_read}
 use Rattle.protocol.specs.Order.{OwnedUpTo}
-use Rattle.graphml.specs.Log.{entry, entries, items_from, items_of, times, HasBothEnds, all_read}
+use Rattle.graphml.specs.Log.{entry, entries, items_from, items_of, occurrences, HasBothEnds, all_read}
 use Rattle.graphml.proofs.Told.{read}
 use Rattle.graphml.proofs.Found.{split_places}
 
 -- how often place k stands among these items
-abbrev times_in : ℕ → List Item → ℕ
-times_in k xs = times k (flat_map place_of (read xs))
+abbrev occurrences_in : ℕ → List Item → ℕ
+occurrences_in k xs = occurrences k (flat_map place_of (read xs))
 
-times-append : (k : ℕ) (xs ys : List ℕ) → times k (xs ++ ys) ≡ times k xs + times k ys
-times-append k [] ys = omega arith
-times-append k (j ∷ xs) ys = let rest = times-append k xs ys in omega arith
+occurrences-append : (k : ℕ) (xs ys : List ℕ) → occurrences k (xs ++ ys) ≡ occurrences k xs + occurrences k ys
+occurrences-append k [] ys = omega arith
+occurrences-append k (j ∷ xs) ys = let rest = occurrences-append k xs ys in omega arith
 
 -- one party's records among hs, from place j on: none of them stands before j, and each stands once
-before : (i j k : ℕ) (hs : List Happening) → k < j → times_in k (map (happened i) (entries i j hs)) ≡ 0
+before : (i j k : ℕ) (hs : List Happening) → k < j → occurrences_in k (map (happened i) (entries i j hs)) ≡ 0
 before i j k [] h = refl
 before i j k (w ∷ hs) h =
     let rest : List Entry = entries i (j + 1) hs in
     let other : (j == k) ≡ false = ne_eqb j k (λ e. omega arith) in
-    let later : times_in k (map (happened i) rest) ≡ 0 = before i (j + 1) k hs (omega arith) in
-    elim (w.owner == i) as (λ (b : Bool). times_in k (map (happened i) (cond b (entry j w ∷ rest) rest)) ≡ 0) [
-      | true ↦ ap (λ (b : Bool). cond b 1 0 + times_in k (map (happened i) rest)) other ∙ zero-add (times_in k (map (happened i) rest)) ∙ later
+    let later : occurrences_in k (map (happened i) rest) ≡ 0 = before i (j + 1) k hs (omega arith) in
+    elim (w.owner == i) as (λ (b : Bool). occurrences_in k (map (happened i) (cond b (entry j w ∷ rest) rest)) ≡ 0) [
+      | true ↦ ap (λ (b : Bool). cond b 1 0 + occurrences_in k (map (happened i) rest)) other ∙ zero-add (occurrences_in k (map (happened i) rest)) ∙ later
       | false ↦ later
     ]
 
-past : (i j k : ℕ) (hs : List Happening) → j + length hs ≤ k → times_in k (map (happened i) (entries i j hs)) ≡ 0
+past : (i j k : ℕ) (hs : List Happening) → j + length hs ≤ k → occurrences_in k (map (happened i) (entries i j hs)) ≡ 0
 past i j k [] h = refl
 past i j k (w ∷ hs) h =
     let rest : List Entry = entries i (j + 1) hs in
     let other : (j == k) ≡ false = ne_eqb j k (λ e. omega arith) in
-    let later : times_in k (map (happened i) rest) ≡ 0 = past i (j + 1) k hs (omega arith) in
-    elim (w.owner == i) as (λ (b : Bool). times_in k (map (happened i) (cond b (entry j w ∷ rest) rest)) ≡ 0) [
-      | true ↦ ap (λ (b : Bool). cond b 1 0 + times_in k (map (happened i) rest)) other ∙ zero-add (times_in k (map (happened i) rest)) ∙ later
+    let later : occurrences_in k (map (happened i) rest) ≡ 0 = past i (j + 1) k hs (omega arith) in
+    elim (w.owner == i) as (λ (b : Bool). occurrences_in k (map (happened i) (cond b (entry j w ∷ rest) rest)) ≡ 0) [
+      | true ↦ ap (λ (b : Bool). cond b 1 0 + occurrences_in k (map (happened i) rest)) other ∙ zero-add (occurrences_in k (map (happened i) rest)) ∙ later
       | false ↦ later
     ]
 
-own : (i j d : ℕ) (hs : List Happening) → d < length hs → times_in (j + d) (map (happened i) (entries i j hs)) ≡ cond ((happening_at hs d).owner == i) 1 0
+own : (i j d : ℕ) (hs : List Happening) → d < length hs → occurrences_in (j + d) (map (happened i) (entries i j hs)) ≡ cond ((happening_at hs d).owner == i) 1 0
 own i j d [] h = absurd (omega arith)
 own i j zero (w ∷ hs) h =
     let rest : List Entry = entries i (j + 1) hs in
     let same : (j == j + 0) ≡ true = eq-eqb j (j + 0) (omega arith) in
-    let later : times_in (j + 0) (map (happened i) rest) ≡ 0 = before i (j + 1) (j + 0) hs (omega arith) in
-    elim (w.owner == i) as (λ (b : Bool). times_in (j + 0) (map (happened i) (cond b (entry j w ∷ rest) rest)) ≡ cond b 1 0) [
+    let later : occurrences_in (j + 0) (map (happened i) rest) ≡ 0 = before i (j + 1) (j + 0) hs (omega arith) in
+    elim (w.owner == i) as (λ (b : Bool). occurrences_in (j + 0) (map (happened i) (cond b (entry j w ∷ rest) rest)) ≡ cond b 1 0) [
       | true ↦ (λ x. cond (same x) 1 0 + later x)
       | false ↦ later
     ]
@@ -57,14 +57,14 @@ own i j (suc d) (w ∷ hs) h =
     let rest : List Entry = entries i (j + 1) hs in
     let other : (j == j + suc d) ≡ false = ne_eqb j (j + suc d) (λ e. omega arith) in
     let at : j + 1 + d ≡ j + suc d = omega arith in
-    let later : times_in (j + suc d) (map (happened i) rest) ≡ cond ((happening_at hs d).owner == i) 1 0 =
-    subst (λ (k : ℕ). times_in k (map (happened i) rest) ≡ cond ((happening_at hs d).owner == i) 1 0) at (own i (j + 1) d hs (omega arith)) in
-    elim (w.owner == i) as (λ (b : Bool). times_in (j + suc d) (map (happened i) (cond b (entry j w ∷ rest) rest)) ≡ cond ((happening_at hs d).owner == i) 1 0) [
-      | true ↦ ap (λ (b : Bool). cond b 1 0 + times_in (j + suc d) (map (happened i) rest)) other ∙ zero-add (times_in (j + suc d) (map (happened i) rest)) ∙ later
+    let later : occurrences_in (j + suc d) (map (happened i) rest) ≡ cond ((happening_at hs d).owner == i) 1 0 =
+    subst (λ (k : ℕ). occurrences_in k (map (happened i) rest) ≡ cond ((happening_at hs d).owner == i) 1 0) at (own i (j + 1) d hs (omega arith)) in
+    elim (w.owner == i) as (λ (b : Bool). occurrences_in (j + suc d) (map (happened i) (cond b (entry j w ∷ rest) rest)) ≡ cond ((happening_at hs d).owner == i) 1 0) [
+      | true ↦ ap (λ (b : Bool). cond b 1 0 + occurrences_in (j + suc d) (map (happened i) rest)) other ∙ zero-add (occurrences_in (j + suc d) (map (happened i) rest)) ∙ later
       | false ↦ later
     ]
 
-no_edge : (k : ℕ) (es : List Edge) → times_in k (map joined es) ≡ 0
+no_edge : (k : ℕ) (es : List Edge) → occurrences_in k (map joined es) ≡ 0
 no_edge k [] = refl
 no_edge k (e ∷ es) = no_edge k es
 
@@ -72,52 +72,52 @@ module _ (log : List Happening) (k : ℕ) (here : k < length log) where
   abbrev owner : ℕ
   owner = (happening_at log k).owner
 
-  one_more : (i m : ℕ) → times_in k (items_from log i (suc m)) ≡ cond (owner == i) 1 0 + times_in k (items_from log (i + 1) m)
+  one_more : (i m : ℕ) → occurrences_in k (items_from log i (suc m)) ≡ cond (owner == i) 1 0 + occurrences_in k (items_from log (i + 1) m)
   one_more i m =
-      ap (times k) (split_places (map (happened i) (entries i 0 log)) (items_from log (i + 1) m))
-      ∙ times-append k (flat_map place_of (read (map (happened i) (entries i 0 log)))) (flat_map place_of (read (items_from log (i + 1) m)))
-      ∙ ap (λ (x : ℕ). x + times_in k (items_from log (i + 1) m)) (subst (λ (j : ℕ). times_in j (map (happened i) (entries i 0 log)) ≡ cond (owner == i) 1 0) (zero-add k) (own i 0 k log here))
+      ap (occurrences k) (split_places (map (happened i) (entries i 0 log)) (items_from log (i + 1) m))
+      ∙ occurrences-append k (flat_map place_of (read (map (happened i) (entries i 0 log)))) (flat_map place_of (read (items_from log (i + 1) m)))
+      ∙ ap (λ (x : ℕ). x + occurrences_in k (items_from log (i + 1) m)) (subst (λ (j : ℕ). occurrences_in j (map (happened i) (entries i 0 log)) ≡ cond (owner == i) 1 0) (zero-add k) (own i 0 k log here))
 
-  past_it : (i m : ℕ) → owner < i → times_in k (items_from log i m) ≡ 0
+  past_it : (i m : ℕ) → owner < i → occurrences_in k (items_from log i m) ≡ 0
   past_it i zero h = no_edge k (edges 0 log)
   past_it i (suc m) h =
       let other : (owner == i) ≡ false = ne_eqb owner i (λ e. omega arith) in
-      one_more i m ∙ rw other (zero-add (times_in k (items_from log (i + 1) m)) ∙ past_it (i + 1) m (omega arith))
+      one_more i m ∙ rw other (zero-add (occurrences_in k (items_from log (i + 1) m)) ∙ past_it (i + 1) m (omega arith))
 
-  once : (i m : ℕ) → i ≤ owner → owner < i + m → times_in k (items_from log i m) ≡ 1
+  once : (i m : ℕ) → i ≤ owner → owner < i + m → occurrences_in k (items_from log i m) ≡ 1
   once i zero h l = absurd (omega arith)
   once i (suc m) h l =
       one_more i m
       ∙ ⊎_elim
       (λ e. let same : owner ≡ i = eqb-true owner i e in rw (e, past_it (i + 1) m (omega arith)) refl)
-      (λ e. let other : owner ≡ i → ⊥ = eqb-false owner i e in rw e (zero-add (times_in k (items_from log (i + 1) m)) ∙ once (i + 1) m (omega arith) (omega arith)))
+      (λ e. let other : owner ≡ i → ⊥ = eqb-false owner i e in rw e (zero-add (occurrences_in k (items_from log (i + 1) m)) ∙ once (i + 1) m (omega arith) (omega arith)))
       (cases_Bool (owner == i))
 
-  once_at_most : (i m : ℕ) → times_in k (items_from log i m) ≤ 1
+  once_at_most : (i m : ℕ) → occurrences_in k (items_from log i m) ≤ 1
   once_at_most i zero = let none = no_edge k (edges 0 log) in omega arith
   once_at_most i (suc m) =
-      let after : ℕ = times_in k (items_from log (i + 1) m) in
+      let after : ℕ = occurrences_in k (items_from log (i + 1) m) in
       ⊎_elim
       (λ e.
       let same : owner ≡ i = eqb-true owner i e in
       let none : after ≡ 0 = past_it (i + 1) m (omega arith) in
-      let all : times_in k (items_from log i (suc m)) ≡ 1 = one_more i m ∙ (λ x. cond (e x) 1 0 + none x) in
+      let all : occurrences_in k (items_from log i (suc m)) ≡ 1 = one_more i m ∙ (λ x. cond (e x) 1 0 + none x) in
       omega arith)
       (λ e.
       let rest : after ≤ 1 = once_at_most (i + 1) m in
-      let all : times_in k (items_from log i (suc m)) ≡ 0 + after = one_more i m ∙ ap (λ (b : Bool). cond b 1 0 + after) e in
+      let all : occurrences_in k (items_from log i (suc m)) ≡ 0 + after = one_more i m ∙ ap (λ (b : Bool). cond b 1 0 + after) e in
       omega arith)
       (cases_Bool (owner == i))
 
 -- no place past the log's end
-none_past : (log : List Happening) (k : ℕ) → length log ≤ k → (i m : ℕ) → times_in k (items_from log i m) ≡ 0
+none_past : (log : List Happening) (k : ℕ) → length log ≤ k → (i m : ℕ) → occurrences_in k (items_from log i m) ≡ 0
 none_past log k h i zero = no_edge k (edges 0 log)
 none_past log k h i (suc m) =
-    ap (times k) (split_places (map (happened i) (entries i 0 log)) (items_from log (i + 1) m))
-    ∙ times-append k (flat_map place_of (read (map (happened i) (entries i 0 log)))) (flat_map place_of (read (items_from log (i + 1) m)))
+    ap (occurrences k) (split_places (map (happened i) (entries i 0 log)) (items_from log (i + 1) m))
+    ∙ occurrences-append k (flat_map place_of (read (map (happened i) (entries i 0 log)))) (flat_map place_of (read (items_from log (i + 1) m)))
     ∙ (λ x. past i 0 k log (omega arith) x + none_past log k h (i + 1) m x)
 
-pub places_once_at_most : (n : ℕ) (log : List Happening) (k : ℕ) → times_in k (items_of n log) ≤ 1
+pub places_once_at_most : (n : ℕ) (log : List Happening) (k : ℕ) → occurrences_in k (items_of n log) ≤ 1
 places_once_at_most n log k =
     ⊎_elim
     (λ l. once_at_most log k (ltb-true k (length log) l) 0 (n + 1))
@@ -125,17 +125,17 @@ places_once_at_most n log k =
     (cases_Bool (ltb k (length log)))
 
 -- of a first part no more
-pub fewer : (k c : ℕ) (xs : List Item) → times_in k (take c xs) ≤ times_in k xs
+pub fewer : (k c : ℕ) (xs : List Item) → occurrences_in k (take c xs) ≤ occurrences_in k xs
 fewer k zero xs = omega arith
 fewer k (suc c) [] = omega arith
 fewer k (suc c) (happened i e ∷ xs) = let rest = fewer k c xs in omega arith
 fewer k (suc c) (joined e ∷ xs) = fewer k c xs
 
-pub places_once : (n : ℕ) (log : List Happening) → OwnedUpTo n log → (k : ℕ) → k < length log → times_in k (items_of n log) ≡ 1
+pub places_once : (n : ℕ) (log : List Happening) → OwnedUpTo n log → (k : ℕ) → k < length log → occurrences_in k (items_of n log) ≡ 1
 places_once n log within k here = let h = within k here in once log k here 0 (n + 1) (omega arith) (omega arith)
 
 -- both ends of each edge are places of the log
-module _ (bs : List ℕ) (log : List Happening) (once_each : (k : ℕ) → k < length log → times k (places_read bs) ≡ 1) where
+module _ (bs : List ℕ) (log : List Happening) (once_each : (k : ℕ) → k < length log → occurrences k (places_read bs) ≡ 1) where
   both : (b : Bool) (e : Edge) (es : List Edge) → (b ≡ true → HasBothEnds bs (Some e)) → All (HasBothEnds bs) (all_read es) → All (HasBothEnds bs) (all_read (cond b (e ∷ es) es))
   both true e es p q = All-cons (HasBothEnds bs) (Some e) (all_read es) (p refl) q
   both false e es p q = q

@@ -16,7 +16,7 @@ use Rattle.graphml.specs.Numbers.{Fits}
 use Rattle.markup.specs.Closing.{Closes}
 use Rattle.graphml.specs.Reading.{Item, items_read, happening_of, place_of, places_read, edge_of, edges_read, parties_read}
 use Rattle.protocol.specs.Order.{OwnedUpTo}
-use Rattle.graphml.specs.Log.{items_of, times, HasBothEnds, all_read, ShowsTheLog}
+use Rattle.graphml.specs.Log.{items_of, occurrences, HasBothEnds, all_read, ShowsTheLog}
 use Rattle.graphml.specs.Answer.{in_frame, part, over, run_bytes, summary, run_answer}
 use Rattle.graphml.specs.Writer.{Writer, after_text, after_fitting}
 use Rattle.graphml.proofs.Shapes.{in_run, kept_shaped, body_shaped}
@@ -114,8 +114,8 @@ module _ (out : List ℕ) (log : List Happening) (n : ℕ) (h : 275 ≤ length o
     all_edges : whole ≡ true → edges_read text ≡ all_read (edges 0 log)
     all_edges w = ap (flat_map edge_of) (all_told w) ∙ edges_found n log
 
-    once_each : whole ≡ true → OwnedUpTo n log → (k : ℕ) → k < length log → times k (places_read text) ≡ 1
-    once_each w within k here = ap (λ (l : List (Option Item)). times k (flat_map place_of l)) (all_told w) ∙ places_once n log within k here
+    once_each : whole ≡ true → OwnedUpTo n log → (k : ℕ) → k < length log → occurrences k (places_read text) ≡ 1
+    once_each w within k here = ap (λ (l : List (Option Item)). occurrences k (flat_map place_of l)) (all_told w) ∙ places_once n log within k here
 
     -- of the answer to it
     shown_text : ShowsTheLog n log (summary fit whole) text
@@ -126,7 +126,7 @@ module _ (out : List ℕ) (log : List Happening) (n : ℕ) (h : 275 ≤ length o
       keys = keys_found fit (fitting_part_each spelling Framed (length out - 275) (body log n) (body_framed log n));
       one_graph = graphs_found fit (fitting_part_each spelling Framed (length out - 275) (body log n) (body_framed log n));
       no_place_twice = λ k.
-          let few = ap (λ (l : List (Option Item)). times k (flat_map place_of l)) (told ∙ ap all_read first) in
+          let few = ap (λ (l : List (Option Item)). occurrences k (flat_map place_of l)) (told ∙ ap all_read first) in
           let part = fewer k (count is_happening fit + count is_edge fit) (items_of n log) in
           let all = places_once_at_most n log k in
           omega arith;

@@ -30,15 +30,15 @@ numbers i zero = []
 numbers i (suc m) = i ∷ numbers (i + 1) m
 
 -- how many of these are k
-abbrev pub times : ℕ → List ℕ → ℕ
-times k [] = 0
-times k (j ∷ js) = cond (j == k) 1 0 + times k js
+abbrev pub occurrences : ℕ → List ℕ → ℕ
+occurrences k [] = 0
+occurrences k (j ∷ js) = cond (j == k) 1 0 + occurrences k js
 
 -- both ends of an edge that was read are happenings in the file, each there once
 abbrev pub HasBothEnds : List ℕ → Option Edge → Type 0
 HasBothEnds bs None = ⊥
 HasBothEnds bs (Some e) =
-    (times e.source (places_read bs) ≡ 1) × (times e.target (places_read bs) ≡ 1)
+    (occurrences e.source (places_read bs) ≡ 1) × (occurrences e.target (places_read bs) ≡ 1)
 
 -- every one of these, and each as it is
 abbrev pub all_read : {A : Type 0} → List A → List (Option A)
@@ -53,7 +53,7 @@ pub record ShowsTheLog (n : ℕ) (log : List Happening) (x : Exported) (bs : Lis
   pub keys : keys_read bs ≡ happening_keys
   pub one_graph : graphs_read bs ≡ codes "run" ∷ []
   -- a place is read from its node's id: no such id stands twice
-  pub no_place_twice : (k : ℕ) → times k (places_read bs) ≤ 1
+  pub no_place_twice : (k : ℕ) → occurrences k (places_read bs) ≤ 1
   -- whole, it has the parties 0 to n, of each its records, and the edges of the arrivals, all in
   -- their order
   pub parties : x.whole ≡ true → parties_read bs ≡ all_read (numbers 0 (n + 1))
@@ -63,6 +63,6 @@ pub record ShowsTheLog (n : ℕ) (log : List Happening) (x : Exported) (bs : Lis
   pub no_others : x.whole ≡ true → items_read bs ≡ all_read (items_of n log)
   -- and so each place of the log stands once
   pub each_place_once :
-      x.whole ≡ true → OwnedUpTo n log → (k : ℕ) → k < length log → times k (places_read bs) ≡ 1
+      x.whole ≡ true → OwnedUpTo n log → (k : ℕ) → k < length log → occurrences k (places_read bs) ≡ 1
   pub edges_have_both_ends :
       x.whole ≡ true → OwnedUpTo n log → Linked n log → All (HasBothEnds bs) (edges_read bs)

@@ -12,7 +12,7 @@ use Rattle.graphml.specs.declared.answer.Refusal.{Refusal}
 use Rattle.graphml.specs.Body.{body}
 use Rattle.markup.specs.Closing.{Closes}
 use Rattle.graphml.specs.Reading.{edges_read, places_read}
-use Rattle.graphml.specs.Log.{ShowsTheLog, HasBothEnds, times, all_read}
+use Rattle.graphml.specs.Log.{ShowsTheLog, HasBothEnds, occurrences, all_read}
 use Rattle.graphml.specs.Answer.{frame_size, in_frame, run_answer, run_bytes}
 use Rattle.graphml.specs.Lent.{Lent}
 use Rattle.markup.specs.Cut.{EndsAt}
@@ -26,7 +26,7 @@ pub record ShowsTheDeliveries (rules : Rules) (steps : List Step)
   pub read : edges_read bs ≡ all_read edges
   pub deliveries : EdgesAreTheDeliveries rules steps log edges
   -- each record of the log is there once, and so are both ends of each edge
-  pub each_place_once : (k : ℕ) → k < length log → times k (places_read bs) ≡ 1
+  pub each_place_once : (k : ℕ) → k < length log → occurrences k (places_read bs) ≡ 1
   pub edges_have_both_ends : All (HasBothEnds bs) (edges_read bs)
 
 -- of the file of a run by those steps that came to s, in the output that was lent for it

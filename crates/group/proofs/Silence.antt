@@ -16,14 +16,14 @@ use Rattle.protocol.specs.calls.Tick.{round_ends}
 use Rattle.protocol.specs.Quiet.{with_clock, timer_rests, Rests, Quiet}
 use Rattle.protocol.proofs.Lifts.{none_of_any}
 use Rattle.protocol.proofs.Numbers.{least_patience}
-use Rattle.group.specs.Patience.{silent_for, DoesFor}
+use Rattle.group.specs.Patience.{silent_for, Suffices}
 
 not_for_longer : (st : Standing) (d e clock : ℕ) (p : Party) → p.own.standing ≡ st → d ≤ e → silent_for d clock p ≡ false → silent_for e clock p ≡ false
 not_for_longer st d e clock p is h f = grind (arith, nat_tests)
 
 -- 2 tmax does where nobody is silent for that long
 pub least_does : (m : Meaning) → Lawful m → (plan : Plan) (t : Table) (d : ℕ) → d ≡ 2 * m.tmax →
-    list_any (silent_for d t.clock) (take plan.n t.parties) ≡ false → DoesFor m plan t d
+    list_any (silent_for d t.clock) (take plan.n t.parties) ≡ false → Suffices m plan t d
 least_does m sound plan t d e none =
     let most : d ≤ patience m plan.kind = omega (arith, least_patience m sound plan.kind) in
     record {
@@ -49,7 +49,7 @@ each_rests ps d tmin c rest k =
     ]
 
 -- who rests by a patience below D rests by D
-pub rests_by : (m : Meaning) (plan : Plan) (t : Table) (d tmin c : ℕ) → DoesFor m plan t d → tmin ≡ m.tmin →
+pub rests_by : (m : Meaning) (plan : Plan) (t : Table) (d tmin c : ℕ) → Suffices m plan t d → tmin ≡ m.tmin →
     ((k : ℕ) → k < length (take plan.n t.parties) → Rests d tmin c (get_or (take plan.n t.parties) k nobody)) →
     (k : ℕ) → k < plan.n → Rests (patience m plan.kind) m.tmin c (get_or t.parties k nobody)
 rests_by m plan t d tmin c does em rest k h =
@@ -59,7 +59,7 @@ rests_by m plan t d tmin c does em rest k h =
     record { legs = r.legs; timer = rests_for_longer p.own.standing d (patience m plan.kind) m.tmin (c - p.own.since) does.most r.timer }
 
 -- what is quiet by a patience below D is quiet by D
-pub quiet_by : (m : Meaning) (plan : Plan) (t : Table) (d tmin c : ℕ) → DoesFor m plan t d → tmin ≡ m.tmin → round_ends (with_clock c t) ≡ false →
+pub quiet_by : (m : Meaning) (plan : Plan) (t : Table) (d tmin c : ℕ) → Suffices m plan t d → tmin ≡ m.tmin → round_ends (with_clock c t) ≡ false →
     ((k : ℕ) → k < length (take plan.n t.parties) → Rests d tmin c (get_or (take plan.n t.parties) k nobody)) → Quiet m plan t c
 quiet_by m plan t d tmin c does em round rest = record { root = round; parties = rests_by m plan t d tmin c does em rest }
 

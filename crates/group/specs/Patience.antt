@@ -12,7 +12,7 @@ abbrev pub silent_for : ℕ → ℕ → Party → Bool
 silent_for d clock p = live p.own.standing && nat_le d (clock - p.own.since)
 
 -- at the clock, d ends the same parties as D does, and it never exceeds D
-pub record DoesFor (m : Meaning) (plan : Plan) (t : Table) (d : ℕ) : Type 0 where
+pub record Suffices (m : Meaning) (plan : Plan) (t : Table) (d : ℕ) : Type 0 where
   pub some : 0 < d
   pub most : d ≤ patience m plan.kind
   pub alike : (k : ℕ) → k < plan.n →

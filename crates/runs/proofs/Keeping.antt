@@ -17,7 +17,8 @@ use Rattle.group.specs.declared.group.Group.{Group}
 use Rattle.group.specs.Does.{rules, state, Stays, Does}
 use Rattle.group.proofs.Staying.{same_rules}
 use Rattle.group.specs.Advance.{WentOn}
-use Rattle.runs.specs.Runs.{IsRun, Leads, Makes}
+use Rattle.protocol.specs.Rehearsals.{Rehearsed}
+use Rattle.runs.specs.Runs.{IsRun, Makes}
 use Rattle.runs.proofs.Answering.{makes_run}
 use Rattle.protocol.specs.Rules.{Rules}
 
@@ -33,7 +34,7 @@ module _ {A : Type 0} {D : Ghosts A} where
 
   -- some steps more
   pub goes_on : (g g' : Group A D) (l l' : SlotList Happening) (steps : List Step) → Lawful (D.means g.pace) → Stays g g' l l' →
-      Leads (rules g l) (state g l) steps (state g' l') → ∥ IsRun (rules g l) (state g l) ∥₁ → ∥ IsRun (rules g' l') (state g' l') ∥₁
+      Rehearsed (rules g l) (state g l) steps (state g' l') → ∥ IsRun (rules g l) (state g l) ∥₁ → ∥ IsRun (rules g' l') (state g' l') ∥₁
   goes_on g g' l l' steps sound stays leads run =
       let R = rules g l in
       let on = λ (r : IsRun R (state g l)).
@@ -53,7 +54,7 @@ module _ {A : Type 0} {D : Ghosts A} where
   goes_on_making calls g g' l l' told sound h =
       let R = rules g l in
       let made = makes_run R calls (state g l) in
-      goes_on g g' l l' made.steps sound h.stays (subst (λ (s : State). Leads R (state g l) made.steps s) (sym h.after) made.by_the_rules)
+      goes_on g g' l l' made.steps sound h.stays (subst (λ (s : State). Rehearsed R (state g l) made.steps s) (sym h.after) made.by_the_rules)
 
   -- ticks more
   pub went_on : (until : ℕ) (g g' : Group A D) (l l' : SlotList Happening) (answer : Result (Unit {0}) Refusal) → Lawful (D.means g.pace) →

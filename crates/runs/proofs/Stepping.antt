@@ -13,14 +13,14 @@ use Rattle.protocol.proofs.Rehearsal.{map_set, more}
 use Rattle.group.specs.declared.group.Group.{Group}
 use Rattle.group.specs.Does.{rules, state, Stays, Does}
 use Rattle.group.proofs.Staying.{stays_on, same_rules}
-use Rattle.runs.specs.Runs.{Leads}
+use Rattle.protocol.specs.Rehearsals.{Rehearsed}
 use Rattle.protocol.specs.Rules.{Rules}
 
 -- the first n calls were made
 pub record DoesFirst {A : Type 0} {d : Ghosts A} (n : ℕ) (g g' : Group A d) (l l' : SlotList Happening) (steps steps' : List Step) : Type 0 where
   pub stays : Stays g g' l l'
   pub calls : map call_of steps' ≡ map call_of steps
-  pub leads : Leads (rules g l) (state g l) (take n steps') (state g' l')
+  pub leads : Rehearsed (rules g l) (state g l) (take n steps') (state g' l')
 
 -- the next call is made, and its answer put beside it
 pub put_next : {A : Type 0} {D : Ghosts A} (n : ℕ) (x : Step) (a b c : Group A D) (k l m : SlotList Happening) (xs ys : List Step) (answer : Result (Unit {0}) Refusal) →

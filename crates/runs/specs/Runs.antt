@@ -23,16 +23,12 @@ rules_over m plan slots = record { meaning = m; plan = plan; room = length slots
 abbrev pub IsRun : Rules → State → Type 0
 IsRun R s = (steps : List Step) × KeepsTheRules R steps s
 
--- the steps, each a call with its answer, lead by the rules from s to s'
-abbrev pub Leads : Rules → State → List Step → State → Type 0
-Leads R s steps s' = Rehearsed R s steps s'
-
 -- every call of the steps was made in turn, and its answer put beside it
 pub record DoesAll {A : Type 0} {d : Ghosts A} (g g' : Group A d) (l l' : SlotList Happening)
     (steps steps' : List Step) : Type 0 where
   pub stays : Stays g g' l l'
   pub calls : map call_of steps' ≡ map call_of steps
-  pub leads : Leads (rules g l) (state g l) steps' (state g' l')
+  pub leads : Rehearsed (rules g l) (state g l) steps' (state g' l')
 
 -- the calls were made in turn, up to the first that was refused, whose number is told; 0 for none
 pub record Makes {A : Type 0} {d : Ghosts A} (calls : List Call) (g g' : Group A d)

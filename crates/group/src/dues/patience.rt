@@ -2,7 +2,7 @@
 ghost use Rattle.std.specs.Prelude.{◌≡◌, ◌≤◌, take};
 ghost use Rattle.std.specs.List.{list_any};
 ghost use Rattle.protocol.specs.Rules.{patience, trip};
-ghost use Rattle.group.specs.Patience.{silent_for, DoesFor};
+ghost use Rattle.group.specs.Patience.{silent_for, Suffices};
 
 use pace::Pace;
 use pace::total::total;
@@ -33,7 +33,7 @@ pub(crate) fn patience_of<P: Pace>(pace: &P, kind: GroupKind) -> u32
 // D, or 2 tmax where nobody is silent for that long. D is never less, so that the waits are summed
 // only where a party may end.
 pub(crate) fn patience_for<P: Pace>(pace: &P, plan: &Plan, table: &Table) -> u32
-    ensures { DoesFor (P.means pace.now) plan.now table.now result }
+    ensures { Suffices (P.means pace.now) plan.now table.now result }
 {
     let least = 2 * pace.limits().tmax();
     if is_any_silent(plan, table, least) {

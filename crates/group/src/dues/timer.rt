@@ -5,7 +5,7 @@ ghost use Rattle.protocol.specs.Party.{nobody};
 ghost use Rattle.protocol.specs.Rules.{trip};
 ghost use Rattle.protocol.specs.Quiet.{timer_rests, Rests};
 ghost use Rattle.protocol.specs.declared.party.Stage.TheVariants.{Joining};
-ghost use Rattle.group.specs.Patience.{DoesFor};
+ghost use Rattle.group.specs.Patience.{Suffices};
 ghost use Rattle.group.specs.Until.{Until};
 
 use crate::dues::patience::{patience_for, trip_of};
@@ -30,7 +30,7 @@ impl Timer {
     // At the table's clock, with a patience that does for it.
     pub(crate) fn at<P: Pace>(pace: &P, plan: &Plan, table: &Table) -> Timer
         ensures clock { result.clock ≡ table.now.clock }
-        ensures patience { DoesFor (P.means pace.now) plan.now table.now result.patience }
+        ensures patience { Suffices (P.means pace.now) plan.now table.now result.patience }
         ensures trip { result.trip ≡ trip (P.means pace.now) }
         ensures tmin { result.limits.tmin ≡ (P.means pace.now).tmin }
     {

@@ -5,7 +5,7 @@ use Rattle.protocol.specs.State.{State, opening}
 use Rattle.protocol.specs.Rehearsals.{Rehearsed}
 use Rattle.protocol.proofs.Rehearsal.{keeps}
 use Rattle.group.specs.Does.{state, rules as goes_by}
-use Rattle.runs.specs.Runs.{Leads, rules_over}
+use Rattle.runs.specs.Runs.{rules_over}
 use Rattle.runs.proofs.Keeping.{opened}
 use Rattle.pace.specs.declared.meaning.Pace.{Ghosts}
 use Rattle.group.specs.declared.group.Group.{Group}
@@ -40,7 +40,7 @@ returns g c =
     let same : goes_by new first ≡ R =
     ap₂ (λ p q. rules_over (means p) q first.slots.now) o.pace o.plan ∙ ap (rules_over m plan) slots_are in
     let all : Rehearsed R (opening R) xs s =
-    subst (λ Q. Rehearsed Q (opening Q) xs s) same (subst (λ (z : State). Leads (goes_by new first) z xs s) start e.leads) in
+    subst (λ Q. Rehearsed Q (opening Q) xs s) same (subst (λ (z : State). Rehearsed (goes_by new first) z xs s) start e.leads) in
     let kept = keeps R (g.met.P.Pace.lawful c.args.pace) xs s all in
     let x = c.export-exported.ensures in
     let came = λ (k : ℕ). make_came group k c.export-exported.result in
