@@ -77,8 +77,7 @@ fn obey<P: Pace>(
     Ok(())
 }
 
-/// Plays the orders, first to last; the first refusal ends the playing, and what was done before it
-/// stands.
+/// Plays the orders in turn. The playing ends with the first refusal, and keeps what came before it.
 pub fn play<P: Pace>(
     group: &mut Group<P>,
     orders: &SlotList<'_, Order>,
