@@ -7,7 +7,7 @@ use crate::notices::RefusedFile;
 use graphml::answer::Refusal as ExportRefusal;
 use orders::fault::ReadFault;
 use pace::refusal::Refusal as PaceRefusal;
-use protocol::plan::make::BadPartyCount;
+use protocol::plan::BadPartyCount;
 
 /// What of a file was refused. The library's own refusals come inside it unchanged.
 #[derive(Clone, Copy, Debug, PartialEq, Eq)]

@@ -1,6 +1,9 @@
 // What a group is opened from, beside its pace.
 ghost use Rattle.std.specs.Prelude.{◌≤◌};
 
+mod make;
+
+pub use self::make::BadPartyCount;
 use crate::kind::GroupKind;
 
 /// The kind of a group, and the number of its parties beside the root: 1 to 32.
@@ -11,5 +14,3 @@ pub struct Plan {
     ghost some: { 1 ≤ n },
     ghost few: { n ≤ 32 },
 }
-
-pub mod make;
