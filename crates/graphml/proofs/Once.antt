@@ -20,24 +20,15 @@ occurrences-append : (k : ℕ) (xs ys : List ℕ) → occurrences k (xs ++ ys) �
 occurrences-append k [] ys = omega arith
 occurrences-append k (j ∷ xs) ys = let rest = occurrences-append k xs ys in omega arith
 
--- one party's records among hs, from place j on: none of them stands before j, and each stands once
-before : (i j k : ℕ) (hs : List Happening) → k < j → occurrences_in k (map (happened i) (entries i j hs)) ≡ 0
-before i j k [] h = refl
-before i j k (w ∷ hs) h =
+-- one party's records among hs, from place j on: a place that is none of hs's stands nowhere,
+-- and each of the party's stands once
+elsewhere : (i j k : ℕ) (hs : List Happening) → ((d : ℕ) → d < length hs → j + d ≡ k → ⊥)
+    → occurrences_in k (map (happened i) (entries i j hs)) ≡ 0
+elsewhere i j k [] h = refl
+elsewhere i j k (w ∷ hs) h =
     let rest : List Entry = entries i (j + 1) hs in
-    let other : (j == k) ≡ false = ne_eqb j k (λ e. omega arith) in
-    let later : occurrences_in k (map (happened i) rest) ≡ 0 = before i (j + 1) k hs (omega arith) in
-    elim (w.owner == i) as (λ (b : Bool). occurrences_in k (map (happened i) (cond b (entry j w ∷ rest) rest)) ≡ 0) [
-      | true ↦ ap (λ (b : Bool). cond b 1 0 + occurrences_in k (map (happened i) rest)) other ∙ zero-add (occurrences_in k (map (happened i) rest)) ∙ later
-      | false ↦ later
-    ]
-
-past : (i j k : ℕ) (hs : List Happening) → j + length hs ≤ k → occurrences_in k (map (happened i) (entries i j hs)) ≡ 0
-past i j k [] h = refl
-past i j k (w ∷ hs) h =
-    let rest : List Entry = entries i (j + 1) hs in
-    let other : (j == k) ≡ false = ne_eqb j k (λ e. omega arith) in
-    let later : occurrences_in k (map (happened i) rest) ≡ 0 = past i (j + 1) k hs (omega arith) in
+    let other : (j == k) ≡ false = ne_eqb j k (λ e. h 0 (omega arith) (omega arith)) in
+    let later : occurrences_in k (map (happened i) rest) ≡ 0 = elsewhere i (j + 1) k hs (λ d x e. h (suc d) (omega arith) (omega arith)) in
     elim (w.owner == i) as (λ (b : Bool). occurrences_in k (map (happened i) (cond b (entry j w ∷ rest) rest)) ≡ 0) [
       | true ↦ ap (λ (b : Bool). cond b 1 0 + occurrences_in k (map (happened i) rest)) other ∙ zero-add (occurrences_in k (map (happened i) rest)) ∙ later
       | false ↦ later
@@ -48,7 +39,7 @@ own i j d [] h = absurd (omega arith)
 own i j zero (w ∷ hs) h =
     let rest : List Entry = entries i (j + 1) hs in
     let same : (j == j + 0) ≡ true = eq-eqb j (j + 0) (omega arith) in
-    let later : occurrences_in (j + 0) (map (happened i) rest) ≡ 0 = before i (j + 1) (j + 0) hs (omega arith) in
+    let later : occurrences_in (j + 0) (map (happened i) rest) ≡ 0 = elsewhere i (j + 1) (j + 0) hs (λ d x e. omega arith) in
     elim (w.owner == i) as (λ (b : Bool). occurrences_in (j + 0) (map (happened i) (cond b (entry j w ∷ rest) rest)) ≡ cond b 1 0) [
       | true ↦ (λ x. cond (same x) 1 0 + later x)
       | false ↦ later
@@ -68,14 +59,20 @@ no_edge : (k : ℕ) (es : List Edge) → occurrences_in k (map joined es) ≡ 0
 no_edge k [] = refl
 no_edge k (e ∷ es) = no_edge k es
 
+-- a party's own records stand before those of the parties behind it
+behind : (log : List Happening) (k i m : ℕ)
+    → occurrences_in k (items_from log i (suc m)) ≡ occurrences_in k (map (happened i) (entries i 0 log)) + occurrences_in k (items_from log (i + 1) m)
+behind log k i m =
+    ap (occurrences k) (split_places (map (happened i) (entries i 0 log)) (items_from log (i + 1) m))
+    ∙ occurrences-append k (flat_map place_of (read (map (happened i) (entries i 0 log)))) (flat_map place_of (read (items_from log (i + 1) m)))
+
 module _ (log : List Happening) (k : ℕ) (here : k < length log) where
   abbrev owner : ℕ
   owner = (happening_at log k).owner
 
   one_more : (i m : ℕ) → occurrences_in k (items_from log i (suc m)) ≡ cond (owner == i) 1 0 + occurrences_in k (items_from log (i + 1) m)
   one_more i m =
-      ap (occurrences k) (split_places (map (happened i) (entries i 0 log)) (items_from log (i + 1) m))
-      ∙ occurrences-append k (flat_map place_of (read (map (happened i) (entries i 0 log)))) (flat_map place_of (read (items_from log (i + 1) m)))
+      behind log k i m
       ∙ ap (λ (x : ℕ). x + occurrences_in k (items_from log (i + 1) m)) (subst (λ (j : ℕ). occurrences_in j (map (happened i) (entries i 0 log)) ≡ cond (owner == i) 1 0) (zero-add k) (own i 0 k log here))
 
   past_it : (i m : ℕ) → owner < i → occurrences_in k (items_from log i m) ≡ 0
@@ -113,9 +110,8 @@ module _ (log : List Happening) (k : ℕ) (here : k < length log) where
 none_past : (log : List Happening) (k : ℕ) → length log ≤ k → (i m : ℕ) → occurrences_in k (items_from log i m) ≡ 0
 none_past log k h i zero = no_edge k (edges 0 log)
 none_past log k h i (suc m) =
-    ap (occurrences k) (split_places (map (happened i) (entries i 0 log)) (items_from log (i + 1) m))
-    ∙ occurrences-append k (flat_map place_of (read (map (happened i) (entries i 0 log)))) (flat_map place_of (read (items_from log (i + 1) m)))
-    ∙ (λ x. past i 0 k log (omega arith) x + none_past log k h (i + 1) m x)
+    behind log k i m
+    ∙ (λ x. elsewhere i 0 k log (λ d y e. omega arith) x + none_past log k h (i + 1) m x)
 
 pub places_once_at_most : (n : ℕ) (log : List Happening) (k : ℕ) → occurrences_in k (items_of n log) ≤ 1
 places_once_at_most n log k =
