@@ -63,6 +63,7 @@ module _ (rules : Rules) where
         no_beat_vanishes = subst (NoBeatVanishes rules) back (no_beat_vanishes rules sound calls);
         beats_come_in_time = subst (BeatsComeInTime rules) back (in_time rules sound calls);
         sends_fall_on_free_legs = λ before after call among. free_legs rules sound before call;
+        each_delivery_is_of_the_beat_sent_on_its_leg = λ before after call among i leg b e lo hi stood. (run_logged rules before).put i leg b lo hi stood;
         struck_is_for_good = strikes_for_good rules sound calls;
         log_in_order = subst (LogInOrder rules) back (in_order rules calls);
         log_tells_the_group = subst (TellsTheGroup rules) back (tells_the_group rules calls);

@@ -1,13 +1,16 @@
 -- The promise of a run: what holds of a group and its log after any calls, refused ones too,
 -- from the opening on.
-use Rattle.std.specs.Prelude.{◌≡◌, true, List, ◌∷◌, ◌++◌, map}
+use Rattle.std.specs.Prelude.{◌≡◌, ℕ, ◌≤◌, true, List, ◌∷◌, ◌++◌, map, Some}
+use Rattle.protocol.specs.declared.party.Beat.{Beat}
 use Rattle.protocol.specs.declared.call.Call.{Call}
+use Rattle.protocol.specs.declared.call.Call.TheVariants.{Deliver}
 use Rattle.protocol.specs.declared.call.Step.{Step}
 use Rattle.protocol.specs.Rules.{Rules}
-use Rattle.protocol.specs.State.{State, opening}
+use Rattle.protocol.specs.Party.{on_leg}
+use Rattle.protocol.specs.State.{State, the, opening}
 use Rattle.protocol.specs.Runs.{number, run_state, unharmed}
 use Rattle.protocol.specs.Laws.{RootFollows, PartiesFollow, StopsForCause, NobodyStopped}
-use Rattle.protocol.specs.Beats.{BeatsAreLogged, PutWithTheirSendings, SendingsSettleOnce, FreeFor, edges}
+use Rattle.protocol.specs.Beats.{BeatsAreLogged, PutWithTheirSendings, SendingsSettleOnce, FreeFor, PutBy, edges}
 use Rattle.protocol.specs.Order.{LogInOrder}
 use Rattle.protocol.specs.Rehearsals.{Rehearsed, call_of, answer_of, granted_ticks}
 use Rattle.protocol.specs.Deliveries.{EdgesAreTheDeliveries}
@@ -25,6 +28,14 @@ AtEachCall calls P =
 abbrev pub SendsOnFreeLegs : Rules → List Call → Call → Type 0
 SendsOnFreeLegs rules before call =
     let s = run_state rules before in number rules call s ≡ 0 → FreeFor rules call s
+
+-- a call asks, granted or not, to deliver from a leg: the beat that stands on it was put on that
+-- very leg by the call that wrote the record of its sending
+abbrev pub DeliversWhatWasSent : Rules → List Call → Call → Type 0
+DeliversWhatWasSent rules before call =
+    (i leg : ℕ) (b : Beat) → call ≡ Deliver i leg → 1 ≤ i → i ≤ rules.plan.n →
+    on_leg leg (the i (run_state rules before).table) ≡ Some b →
+    PutBy rules (opening rules) before i leg b
 
 -- of a group opened new from a plan and a pace of that meaning, over so many slots, after the steps
 pub record KeepsTheRules (rules : Rules) (steps : List Step) (s : State) : Type 0 where
@@ -53,6 +64,9 @@ pub record KeepsTheRules (rules : Rules) (steps : List Step) (s : State) : Type 
   pub beats_come_in_time : BeatsComeInTime rules s
   -- no call puts a beat on a leg that holds one
   pub sends_fall_on_free_legs : AtEachCall (map call_of steps) (SendsOnFreeLegs rules)
+  -- a delivery takes the very beat that was sent on its leg
+  pub each_delivery_is_of_the_beat_sent_on_its_leg :
+      AtEachCall (map call_of steps) (DeliversWhatWasSent rules)
   -- from its striking on, a party is struck after each call, and no beat goes out to it
   pub struck_is_for_good : StruckForGood rules (map call_of steps)
   -- the ticks of the log never fall, none is later than the clock, each record is of the root or a
