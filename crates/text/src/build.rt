@@ -1,6 +1,7 @@
 // A line under construction.
 ghost use Rattle.std.specs.Prelude.{◌≡◌, ◌≤◌, [], length, decimal};
 ghost use Rattle.text.specs.Lines.{line_with, padded_text};
+ghost use Rattle.text.specs.Numeral.{Writes};
 
 use super::bytes::put;
 use super::decimal::digits;
@@ -62,8 +63,10 @@ impl Line {
     }
 
     /// Adds a number in decimal where it fits, and changes nothing where it does not.
+    #[tactic(auto, using(crate::proofs::Numbers::writes))]
     pub fn number(&mut self, n: u64)
-        ensures { self.new ≡ line_with self.old (decimal n) }
+        ensures line { self.new ≡ line_with self.old (decimal n) }
+        ensures writes { Writes n (decimal n) }
     {
         self.add(digits(n).as_slice());
     }

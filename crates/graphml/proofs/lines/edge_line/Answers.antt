@@ -10,7 +10,7 @@ returns c =
     let a = number_le c.args.source (omega arith) in
     let b = number_le c.args.target (omega arith) in
     let one = onto _ c.new-l.ensures c.add.ensures (omega arith) in
-    let two = onto _ one c.number.ensures (omega arith) in
+    let two = onto _ one c.number.ensures.line (omega arith) in
     let three = onto _ two c.add-2.ensures (simp length-append (omega arith)) in
-    let four = onto _ three c.number-2.ensures (simp length-append (omega arith)) in
+    let four = onto _ three c.number-2.ensures.line (simp length-append (omega arith)) in
     onto _ four c.add-3.ensures (simp length-append (omega arith))

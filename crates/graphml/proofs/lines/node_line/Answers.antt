@@ -9,5 +9,5 @@ unfolding node_line
 returns c =
     let i = number_le c.args.party (omega arith) in
     let one = onto _ c.new-l.ensures c.add.ensures (omega arith) in
-    let two = onto _ one c.number.ensures (omega arith) in
+    let two = onto _ one c.number.ensures.line (omega arith) in
     onto _ two c.add-2.ensures (simp length-append (omega arith))

@@ -14,7 +14,7 @@ returns c =
     let a = number_le x.order (omega arith) in
     let b = number_le (fault_number x.fault) (omega (arith, c.number-2.ensures)) in
     let one = onto _ refl c.add.ensures (omega arith) in
-    let two = onto _ one c.number.ensures (simp length-append (omega arith)) in
+    let two = onto _ one c.number.ensures.line (simp length-append (omega arith)) in
     let three = onto _ two c.add-2.ensures (simp length-append (omega arith)) in
-    let four = onto _ three (c.number-3.ensures ∙ ap (λ n. line_with c.add-2.new.self (decimal n)) c.number-2.ensures) (simp length-append (omega arith)) in
+    let four = onto _ three (c.number-3.ensures.line ∙ ap (λ n. line_with c.add-2.new.self (decimal n)) c.number-2.ensures) (simp length-append (omega arith)) in
     onto _ four c.add-3.ensures (simp length-append (omega arith)) ∙ simp append_assoc
