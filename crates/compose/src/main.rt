@@ -11,6 +11,7 @@ use schedule::map::RecordLines;
 use schedule::misfit::find_misfit;
 use schedule::misfit_notice::misfit_notice;
 use schedule::notice::notice;
+use std::alloc::AllocError;
 use std::io;
 use std::io::{BufWriter, Write};
 use std::process::ExitCode;
@@ -41,9 +42,32 @@ enum Output {
     Map,
 }
 
+// Why nothing was written, where it is not the text's fault.
+#[derive(Debug, Drop)]
+enum Failure {
+    Memory,
+    Device(io::Error),
+}
+
+impl From<AllocError> for Failure {
+    fn from(_error: AllocError) -> Failure {
+        Failure::Memory
+    }
+}
+
+impl From<io::Error> for Failure {
+    fn from(error: io::Error) -> Failure {
+        Failure::Device(error)
+    }
+}
+
 // Where the complaint is about a word, a second line tells the word and what is due in its place.
 fn tell_complaint(rt: &HostRuntime, text: &[u8], complaint: Complaint) -> io::Result<ExitCode> {
     let status = tell_failure(rt, notice(complaint).as_slice())?;
+    // looking for the word goes over the text anew, which no other complaint needs
+    if !complaint.cause.is_about_word() {
+        return Ok(status);
+    }
     if let Some(misfit) = find_misfit(text, complaint.line) {
         rt.stderr().write_all(misfit_notice(misfit).as_slice())?;
     }
@@ -52,24 +76,24 @@ fn tell_complaint(rt: &HostRuntime, text: &[u8], complaint: Complaint) -> io::Re
 
 // A line for each order: its place, and the number of its line. The first line with words is the
 // start's.
-fn write_map(rt: &HostRuntime, text: &[u8]) -> io::Result<()> {
+fn write_map(rt: &HostRuntime, text: &[u8]) -> Result<(), Failure> {
     let mut out = BufWriter::new(rt.alloc(), io::writer(rt))?;
     for (place, line) in (0..ORDER_SLOTS).zip(RecordLines::new(text).skip(1)) {
         writeln!(out, "{place} {line}")?;
     }
-    out.flush()
+    Ok(out.flush()?)
 }
 
-fn write_orders(rt: &HostRuntime, text: &[u8], output: Output) -> io::Result<ExitCode> {
+fn write_orders(rt: &HostRuntime, text: &[u8], output: Output) -> Result<ExitCode, Failure> {
     if text.len() > TEXT_BYTES {
-        return tell_failure(rt, TOO_LONG);
+        return Ok(tell_failure(rt, TOO_LONG)?);
     }
     let heap = rt.alloc();
     let mut orders = vec![in heap; Order::default(); ORDER_SLOTS]?;
     let mut file = vec![in heap; 0u8; FILE_BYTES]?;
     let size = match compose(text, orders.as_mut_slice(), file.as_mut_slice()) {
         Ok(size) => size,
-        Err(complaint) => return tell_complaint(rt, text, complaint),
+        Err(complaint) => return Ok(tell_complaint(rt, text, complaint)?),
     };
     match output {
         Output::OrderFile => rt.stdout().write_all(&file.as_slice()[..size])?,
@@ -79,18 +103,18 @@ fn write_orders(rt: &HostRuntime, text: &[u8], output: Output) -> io::Result<Exi
 }
 
 // At a terminal nothing is read.
-fn compose_input(rt: &HostRuntime, output: Output) -> io::Result<ExitCode> {
+fn compose_input(rt: &HostRuntime, output: Output) -> Result<ExitCode, Failure> {
     match read_input(rt, TEXT_BYTES as u64 + 1)? {
         Some(text) => write_orders(rt, text.as_slice(), output),
-        None => tell_usage(rt, USAGE),
+        None => Ok(tell_usage(rt, USAGE)?),
     }
 }
 
-fn main(rt: HostRuntime) -> io::Result<ExitCode> {
+fn main(rt: HostRuntime) -> Result<ExitCode, Failure> {
     match read_request(&rt)? {
         Request::Plain => compose_input(&rt, Output::OrderFile),
         Request::Map => compose_input(&rt, Output::Map),
-        Request::Help => tell_help(&rt, USAGE, MEANING),
-        Request::Demo | Request::Unknown => tell_usage(&rt, USAGE),
+        Request::Help => Ok(tell_help(&rt, USAGE, MEANING)?),
+        Request::Demo | Request::Unknown => Ok(tell_usage(&rt, USAGE)?),
     }
 }

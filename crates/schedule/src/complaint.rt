@@ -1,6 +1,7 @@
 // What can be wrong with a text.
 ghost use Rattle.std.specs.Prelude.{◌≡◌};
 ghost use Rattle.schedule.specs.Causes.{complaint_number, refusal_cause};
+ghost use Rattle.schedule.specs.Misfits.{is_about_word};
 
 use slots::refusal::Refusal;
 
@@ -37,6 +38,20 @@ impl Cause {
             Cause::UnknownWord | Cause::NotANumber | Cause::NumberTooLarge => 16,
             Cause::NoSlot | Cause::NoRoom => 12,
             Cause::EarlierTick => 14,
+        }
+    }
+
+    /// Is a word of the line wrong, or missing? Which one it is `find_misfit` tells.
+    pub fn is_about_word(self) -> bool
+        ensures { result ≡ is_about_word self }
+    {
+        match self {
+            Cause::MissingWord
+            | Cause::UnknownWord
+            | Cause::NotANumber
+            | Cause::NumberTooLarge
+            | Cause::WordTooMany => true,
+            Cause::EarlierTick | Cause::NoSlot | Cause::NoStart | Cause::NoRoom => false,
         }
     }
 }
