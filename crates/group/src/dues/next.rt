@@ -23,9 +23,11 @@ pub(crate) fn next_due<P: Pace>(pace: &P, plan: &Plan, table: &Table) -> u32
     ensures late { table.now.clock ≤ result }
     ensures until { QuietUntil (P.means pace.now) plan.now table.now result }
 {
+    let round = round_due(table);
+    // the parties are asked only where the root does not act at once
+    if round <= table.clock {
+        return table.clock;
+    }
     let parties = Timer::at(pace, plan, table).parties_due(table.members(plan));
-    round_due(table)
-        .min(parties)
-        .min(CLOCK_LIMIT)
-        .max(table.clock)
+    round.min(parties).min(CLOCK_LIMIT).max(table.clock)
 }

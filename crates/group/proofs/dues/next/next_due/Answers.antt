@@ -9,6 +9,6 @@ returns-clause-until g c =
       limit = λ later. omega (arith, later);
       quiet = λ x from before.
           quiet_by (g.P.Pace.means c.args.pace.now) c.args.plan.now c.args.table.now _ _ x timer.patience timer.tmin
-          (c.round_due.ensures x (omega arith))
+          (c.round_due-round.ensures x (omega arith))
           (rw c.members.ensures at (c.parties_due-parties.ensures x (omega arith) (omega arith)));
     }
