@@ -135,6 +135,10 @@ module _ (l : Limits) where
   unfolding halving
   shape_of m last = shape 64 l.tmin l.tmax m (omega (arith, last_small m last)) last
 
+  -- halving never gives more than 20 waits
+  pub halving_few : length (halving l.tmin l.tmax) ≤ 20
+  halving_few = let s = found in omega (arith, (shape_of s.0 s.1.last).long, last_small s.0 s.1.last)
+
   pub nth_halving : (k : ℕ) → k < length (halving l.tmin l.tmax) → slice_get (halving l.tmin l.tmax) k ≡ Some (l.tmax / 2 ^ k)
   nth_halving k h =
       let t = shape_of found.0 found.1.last in

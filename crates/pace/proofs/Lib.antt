@@ -1,3 +1,4 @@
 pub mod Sums
 pub mod HalvingPace
 pub mod TwoPhasePace
+pub mod Places

@@ -1,8 +1,8 @@
 -- Lists that grow: what a caller of several appends cites.
 use Rattle.std.proofs.Common.{◌≡◌, ℕ, ◌+◌, ◌-◌, ◌≤◌, List, [], ◌++◌, length, drop, sym, refl, ap, ◌∙◌, arith, take-append-drop}
-use Rattle.std.proofs.lemmas.List.{length-append, length-take-le, drop-drop}
+use Rattle.std.proofs.lemmas.List.{length-append, length-drop, length-take-le, drop-drop}
 use Rattle.slots.specs.declared.SlotList.{SlotList}
-use Rattle.slots.specs.Slots.{items, spare, Appends, Extends}
+use Rattle.slots.specs.Slots.{items, spare, capacity, Appends, Extends}
 
 module _ {X : Type 0} where
   pub items_length : (l : SlotList X) → length (items l) ≡ l.len
@@ -11,6 +11,10 @@ module _ {X : Type 0} where
   -- the slots are the records and then the spare ones
   pub whole : (l : SlotList X) → l.slots.now ≡ items l ++ spare l
   whole l = sym (take-append-drop l.len l.slots.now)
+
+  -- the items and the slots behind them are all the slots there are
+  pub slots_all : (l : SlotList X) → length (items l) + length (spare l) ≡ capacity l
+  slots_all l = omega (arith, items_length l, length-drop l.len l.slots.now, l.within)
 
   -- the slots of a new list are those that were lent
   pub fresh : (l : SlotList X) (xs : List X) → items l ≡ [] → spare l ≡ xs → l.slots.now ≡ xs
